@@ -1,0 +1,10 @@
+pub mod Formula
+pub mod Curve
+pub mod Kind
+pub mod Card
+pub mod Jump
+pub mod Exact
+pub mod Reading
+pub mod Log
+pub mod Steps
+pub mod Orders
