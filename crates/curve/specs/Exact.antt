@@ -8,7 +8,7 @@ use Rattle.whole.specs.Whole.{_·_}
 use Rattle.curve.specs.Formula.{num, _⊖_, _⊛_, amount}
 use Rattle.curve.specs.Curve.{Order, degree, equation, equals}
 use Rattle.curve.specs.Kind.{Kind}
-use Rattle.curve.specs.Card.{Knot, Card, knots, knot, gap, back, on, spot}
+use Rattle.curve.specs.Card.{Card, knots, knot, gap, back, on, spot}
 use Rattle.curve.specs.Jump.{over}
 
 -- Slopes s i / q and curvatures c i / q, in plain units, meet the equation of an order at place i.

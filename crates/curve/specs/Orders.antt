@@ -1,7 +1,6 @@
 -- Document 01, "Numbers of refusal", its last paragraph: the orders, each a chain of the same steps. The log's is with the mean.
 -- Assumes nothing.
 use Prim.Native.Nat.{ℕ}
-use mathlib.Core.List.{List}
 use lib.ListN.{length}
 use Rattle.answer.specs.Answer.{Answer, given, Verdict, _then_, each}
 use Rattle.curve.specs.Kind.{Kind}

@@ -1,0 +1,95 @@
+-- Document 01, "Cases at the edges": P1 to P12, a single table under one claim, of the definitions: by computation.
+-- Assumes nothing.
+use mathlib.Core.Path.{_≡_, refl}
+use mathlib.Core.List.{List, [], _∷_, map}
+use Prim.Native.Nat.{ℕ}
+use lib.IntN.{ℤ, pos}
+use Rattle.whole.specs.Whole.{minus, beyond, nearest}
+use Rattle.answer.specs.Answer.{Answer, refused, given, _then_, refuse, each}
+use Rattle.curve.specs.Log.{count, sum, mean-of, long, readable, some-good, mean}
+use Rattle.curve.specs.Formula.{power, worth, ∂, ∂^, amount}
+use Rattle.curve.specs.Curve.{degree, N, rightward, leftward, allowance}
+use Rattle.curve.specs.Kind.{quintic-asks, quintic}
+use Rattle.curve.specs.Card.{Card, knots, knot, back, on, gap, spot, joint}
+use Rattle.curve.specs.Jump.{inverse, clear, over, rise, jump, allowed, jumps}
+use Rattle.curve.specs.Steps.{slope-beyond, curvature-beyond, lengths, counted, codes, stands, in-range, smooth, outside}
+use Rattle.curve.specs.Orders.{numbers-sound, sound, verdict, reading-order, reading}
+use Rattle.curve.specs.Reading.{last-at, gap-of, spell, denominator, between, reads, reads-at}
+
+-- what of an answer the document names
+unfoldable pub shown : {A : Type 0} → (A → List ℤ) → Answer A → Answer (List ℤ)
+shown f (refused n p) = refused n p
+shown f (given a) = given (f a)
+
+-- Table 3's card, with another curvature at place 2
+unfoldable pub table-3 : ℤ → Card
+table-3 M =
+    record {
+      minutes = 0 ∷ 8 ∷ 16 ∷ 24 ∷ 32 ∷ [];
+      ordinates = pos 500 ∷ pos 0 ∷ pos 500 ∷ pos 0 ∷ pos 500 ∷ [];
+      slopes = minus 819_200 ∷ pos 230_400 ∷ pos 0 ∷ minus 230_400 ∷ pos 819_200 ∷ [];
+      curvatures = pos 147_200 ∷ pos 83_200 ∷ M ∷ pos 83_200 ∷ pos 147_200 ∷ [];
+      left = 0;
+      right = 0;
+    }
+
+line : Card
+line =
+    record {
+      minutes = 0 ∷ 2 ∷ 4 ∷ [];
+      ordinates = pos 0 ∷ pos 1 ∷ pos 2 ∷ [];
+      slopes = pos 2048 ∷ pos 2048 ∷ pos 2048 ∷ [];
+      curvatures = pos 0 ∷ pos 0 ∷ pos 0 ∷ [];
+      left = 0;
+      right = 0;
+    }
+
+-- Table 3's own
+unfoldable pub p1 : Card
+p1 = table-3 (minus 108_800)
+
+unfoldable pub value : Card → ℕ → Answer (List ℤ)
+value c minute = shown (λ r. r .value ∷ []) (reading quintic c minute)
+
+unfoldable pub value-slope : Card → ℕ → Answer (List ℤ)
+value-slope c minute = shown (λ r. r .value ∷ r .slope ∷ []) (reading quintic c minute)
+
+unfoldable pub judged : Card → Answer (List ℤ)
+judged c = shown (λ u. []) (verdict quintic c)
+
+unfoldable pub ordinate-count : List ℕ → Answer (List ℤ)
+ordinate-count log = shown (λ r. r .ordinate ∷ pos (r .good-bytes) ∷ []) (mean 0 log)
+
+infix 4 _is_
+pub record Case : Type 0 where
+  pub found : Answer (List ℤ)
+  pub wanted : Answer (List ℤ)
+
+abbrev pub _is_ : Answer (List ℤ) → Answer (List ℤ) → Case
+f is w = record { found = f; wanted = w }
+
+pub cases : List Case
+cases =
+    (value-slope p1 4 is given (minus 14 ∷ minus 238_400 ∷ []))
+    ∷ (value p1 12 is given (pos 314 ∷ []))
+    ∷ (value p1 32 is given (pos 500 ∷ []))
+    ∷ (judged (table-3 (minus 108_798)) is given [])
+    ∷ (judged (table-3 (minus 108_797)) is refused 10 2)
+    ∷ (judged (table-3 (minus 108_802)) is given [])
+    ∷ (judged (table-3 (minus 108_803)) is refused 10 2)
+    ∷ (value line 1 is given (pos 0 ∷ []))
+    ∷ (value line 3 is given (pos 2 ∷ []))
+    ∷ (ordinate-count (100 ∷ 255 ∷ 102 ∷ []) is given (pos 5050 ∷ pos 2 ∷ []))
+    ∷ (ordinate-count (0 ∷ 0 ∷ 0 ∷ 1 ∷ []) is given (pos 12 ∷ pos 4 ∷ []))
+    ∷ (ordinate-count (0 ∷ 1 ∷ 1 ∷ 1 ∷ []) is given (pos 38 ∷ pos 4 ∷ []))
+    ∷ (ordinate-count (255 ∷ []) is refused 13 0)
+    ∷ (ordinate-count (201 ∷ []) is refused 12 0)
+    ∷ []
+
+pub hold : map (λ c. c .found) cases ≡ map (λ c. c .wanted) cases
+unfolding cases shown table-3 p1 line value value-slope judged ordinate-count
+    beyond nearest _then_ refuse each readable count sum mean-of long some-good mean
+    power worth ∂ ∂^ amount degree N rightward leftward allowance quintic-asks quintic
+    knots knot back on gap spot inverse clear over rise jump allowed joint jumps slope-beyond curvature-beyond
+    lengths counted codes stands in-range smooth outside numbers-sound sound verdict last-at gap-of spell denominator between reads reads-at reading-order reading
+hold = refl
