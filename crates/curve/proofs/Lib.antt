@@ -1,6 +1,9 @@
 pub mod Written
+pub mod Calculus
 pub mod Derivatives
 pub mod Knots
+pub mod Accepted
+pub mod Gap
 pub mod NearExact
 pub mod NeverTen
 pub mod Cases
