@@ -1,13 +1,13 @@
 -- When a record stands at an offset, by its three facts, and the facts of one that does; what an answer tells its caller; and
 -- a header's bytes, both ways. They follow document 01, "Card bytes", and assume nothing.
-use Prim.Native.Nat.{ℕ, _+_, _-_, _^_, _≤_, _<_}
+use Prim.Native.Nat.{ℕ, _+_, _-_, _≤_, _<_}
 use mathlib.Core.Path.{_≡_, _∙_, refl, sym, ap}
 use mathlib.Core.Bool.{Bool, true, false, _&&_, true≢false}
 use mathlib.Core.List.{List, _++_, append-assoc}
 use native.Mathlib.Nat.{add-assoc}
 use native.Mathlib.Omega.{arith}
 use lib.ListN.{length, drop, length-drop}
-use lib.Dec.{leb, eqb, lit<}
+use lib.Dec.{eqb, lit<}
 use borrow.Author.Tests.{le-leb, lt-leb, eq-eqb, ne-eqb, leb-true, eqb-true}
 use Rattle.record.specs.Numbers.{le, numAt, Bytes}
 use Rattle.record.specs.Record.{header, isAt, Answer, answerOf, accepted, refused, recordAt, pick}

@@ -6,7 +6,6 @@ use mathlib.Core.Bool.{Bool, true, false, _&&_}
 use lib.ListN.{length}
 use lib.Dec.{leb, eqb}
 use Rattle.record.specs.Numbers.{le, numAt}
-use Rattle.record.specs.declared.Cursor.{Cursor}
 use Rattle.record.specs.declared.Found.{Found}
 use Rattle.record.specs.declared.Found.the-variants.{Body, Bad}
 

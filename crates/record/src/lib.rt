@@ -149,6 +149,7 @@ impl Cursor {
         Cursor { at }
     }
 
+    // The offset may be any, and so may the bytes: 14 stands for all that is no such record.
     pub fn read(self, list: &[u8], kind: u16, length: u16) -> Found
         ensures { λ r. ⌜ answerOf r ≡ recordAt (now (list .entry)) (self .at) kind length ⌝ }
     {
