@@ -1,0 +1,5 @@
+pub mod Carried
+pub mod Widened
+pub mod Stands
+pub mod Ranges
+pub mod Search
