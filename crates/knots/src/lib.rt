@@ -14,7 +14,7 @@ ghost use Rattle.curve.specs.Card.{back};
 ghost use Rattle.curve.specs.Reading.{gap-of};
 ghost use Rattle.curve.specs.Steps.{lengths, counted, codes, stands, in-range, outside, room};
 ghost use Rattle.knots.specs.Kinds.{quintic-card, kind-of};
-ghost use Rattle.knots.specs.Lent.{lent, wider-gap};
+ghost use Rattle.knots.specs.Lent.{lent, left-gap, right-gap, wider-gap};
 
 // What differs between kinds of card; what they share is below.
 pub struct Kind {
@@ -128,7 +128,7 @@ pub fn gap(from: u16, to: u16) -> u16
 // The gap on the left of a knot; 0 at the first.
 pub fn left_gap(xs: &[u16], i: usize) -> u16
     requires { ⌜ i < length (now xs) ⌝ }
-    ensures { λ r. ⌜ r ≡ getD (now (xs .entry)) i 0 - getD (now (xs .entry)) (back i) 0 ⌝ }
+    ensures { λ r. ⌜ r ≡ left-gap (now (xs .entry)) i ⌝ }
 {
     let before = back(i);
     gap(xs[before], xs[i])
@@ -137,7 +137,7 @@ pub fn left_gap(xs: &[u16], i: usize) -> u16
 // The gap on the right of a knot; 0 at the last.
 pub fn right_gap(xs: &[u16], i: usize) -> u16
     requires { ⌜ i < length (now xs) ⌝ }
-    ensures { λ r. ⌜ r ≡ getD (now (xs .entry)) (min (i + 1) (length (now (xs .entry)) - 1)) 0 - getD (now (xs .entry)) i 0 ⌝ }
+    ensures { λ r. ⌜ r ≡ right-gap (now (xs .entry)) i ⌝ }
 {
     let after = on(xs.len(), i);
     gap(xs[i], xs[after])

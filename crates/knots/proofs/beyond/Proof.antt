@@ -11,7 +11,7 @@ use Rattle.whole.proofs.Order.{ltZ-true, ltZ-false, abs-neg}
 use Rattle.whole.proofs.Linear.{abs-fits}
 use Rattle.whole.proofs.Solve.{:neg, v0 as limit, v1 as z}
 use Rattle.whole.proofs.Machine.{Src, held, Ok, does, asked, told, abs-of-fits}
-use Rattle.knots.proofs.Ranges.{beyond-below, beyond-above}
+use Rattle.knots.proofs.Sides.{beyond-below, beyond-above}
 use Rattle.knots.proofs.beyond.Statement.{statement}
 use Rattle.knots.proofs.beyond.Tie as tie
 

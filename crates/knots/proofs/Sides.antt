@@ -1,4 +1,4 @@
--- `beyond` by the number's sign.
+-- `beyond` on each side of zero.
 -- Assumes nothing.
 use mathlib.Core.Path.{_≡_, refl, sym}
 use Prim.Native.Nat.{ℕ, zero, suc}
