@@ -7,7 +7,7 @@ use native.Mathlib.Nat.{add-zero, zero-add, not-suc-le-zero, le-of-suc-le-suc, m
 use native.Mathlib.Numerals.{add-one}
 use native.Mathlib.Omega.{arith}
 use lib.ListN.{length, take, drop, set, getD, length-append, length-set}
-use lib.Seq.{take-at}
+use lib.Seq.{take-all, take-at}
 use Rattle.card_bytes.specs.Bytes.{rows}
 use Rattle.card_bytes.specs.Held.{table}
 
@@ -66,11 +66,26 @@ module _ {A : Type 0} (f : ℕ → A) where
   table-shift i zero = refl
   table-shift i (suc n) = ap (λ (l : List A). f (suc i) ∷ l) (table-shift (suc i) n)
 
--- a list is the table of its elements
-pub table-of : {A : Type 0} (d : A) (l : List A) → table (λ (i : ℕ). getD l i d) 0 (length l) ≡ l
+table-alike : {A : Type 0} {f g : ℕ → A} (n i k : ℕ) → i + k ≤ n → ((j : ℕ) → j < n → f j ≡ g j) → table f i k ≡ table g i k
 unfolding table
-table-of d [] = refl
-table-of d (x ∷ l) = ap (λ t. x ∷ t) (table-shift (λ (i : ℕ). getD (x ∷ l) i d) 0 (length l) ∙ table-of d l)
+table-alike n i zero l h = refl
+table-alike n i (suc k) l h = rw (h i (omega arith), table-alike n (suc i) k (omega arith) h)
+
+-- the elements of a list, by their places
+abbrev pub from : {A : Type 0} → A → List A → ℕ → A
+from d l i = getD l i d
+
+-- the front of a list is the table of its elements
+table-front : {A : Type 0} (d : A) (l : List A) (n : ℕ) → n ≤ length l → table (from d l) 0 n ≡ take n l
+unfolding table
+table-front d l zero h = refl
+table-front d [] (suc n) h = absurd (not-suc-le-zero h)
+table-front d (x ∷ l) (suc n) h = ap (λ t. x ∷ t) (table-shift (from d (x ∷ l)) 0 n ∙ table-front d l n (le-of-suc-le-suc h))
+
+-- so a table with a list's elements, as long as the list, is the list
+pub table-is : {A : Type 0} (d : A) (f : ℕ → A) (l : List A) {k n : ℕ} → k ≡ n → length l ≡ n → ((j : ℕ) → j < n → f j ≡ getD l j d) → table f 0 k ≡ l
+table-is d f l {k} {n} e q h =
+    rw (e, table-alike n 0 n (omega arith) h, table-front d l n (omega arith)) (take-all n l (omega arith))
 
 -- ---- a loop that fills a list from its front: d is d₀ with the first i values of f over its front
 
@@ -93,3 +108,6 @@ module _ {A : Type 0} {f : ℕ → A} where
   -- what stands at the front once i has come to n
   pub filled-take : {i k n : ℕ} {d₀ d : List A} → Filled f i d₀ d → i ≡ n → k ≡ n → take k d ≡ table f 0 n
   filled-take {i} {k} {n} {d₀} h e q = rw (h .is, e, q) (take-at (table f 0 n) (drop n d₀) n (length-table f 0 n))
+
+pub filled-front : {A : Type 0} (d : A) (l : List A) {i n : ℕ} {d₀ e : List A} → Filled (from d l) i d₀ e → i ≡ n → n ≤ length l → e ≡ take n l ++ drop n d₀
+filled-front d l {i} {n} {d₀} h q room = h .is ∙ rw (q, table-front d l n room)

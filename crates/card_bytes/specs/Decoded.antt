@@ -16,3 +16,12 @@ pub record Holds (d : Decoded) (c : Card) : Type 0 where
   pub ordinates : take (d .knots) (d .ordinates) ≡ c .ordinates
   pub slopes : take (d .knots) (d .slopes) ≡ c .slopes
   pub curvatures : take (d .knots) (d .curvatures) ≡ c .curvatures
+
+-- no more knots than the arrays and the lent lists have places
+pub record Roomy (d : Decoded) (lent : ℕ) : Type 0 where
+  pub few : d .knots ≤ 64
+  pub minutes : d .knots ≤ length (d .minutes)
+  pub ordinates : d .knots ≤ length (d .ordinates)
+  pub slopes : d .knots ≤ length (d .slopes)
+  pub curvatures : d .knots ≤ length (d .curvatures)
+  pub lists : d .knots ≤ lent

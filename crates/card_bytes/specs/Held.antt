@@ -5,7 +5,7 @@ use mathlib.Core.List.{List, [], _∷_}
 use lib.IntN.{ℤ}
 use mir.Syntax.{w16, w32}
 use Rattle.record.specs.Numbers.{numAt, signedAt}
-use Rattle.curve.specs.Card.{Card}
+use Rattle.curve.specs.Card.{Knot, Card}
 
 -- the k values of f from place i on
 unfoldable pub table : {A : Type 0} → (ℕ → A) → ℕ → ℕ → List A
@@ -27,6 +27,9 @@ slope-at s i = signedAt w32 s (start i + 8)
 
 abbrev pub curvature-at : List ℕ → ℕ → ℤ
 curvature-at s i = signedAt w32 s (start i + 12)
+
+abbrev pub knot-at : List ℕ → ℕ → Knot
+knot-at s i = record { x = minute-at s i; y = ordinate-at s i; m = slope-at s i; M = curvature-at s i }
 
 abbrev pub count-at : List ℕ → ℕ
 count-at s = numAt 2 s 4

@@ -4,7 +4,8 @@ use record::Cursor;
 use record::Found;
 ghost use mathlib.Core.Path.{_≡_};
 ghost use Prim.Native.Nat.{_+_, _*_, _^_, _≤_, _<_};
-ghost use lib.ListN.{length};
+ghost use mathlib.Core.List.{_++_};
+ghost use lib.ListN.{length, take, drop};
 ghost use lib.Seq.{sets};
 ghost use Rattle.answer.specs.Answer.{each};
 ghost use Rattle.answer.specs.Judge.{verdict-of};
@@ -12,7 +13,7 @@ ghost use Rattle.curve.specs.Steps.{size};
 ghost use Rattle.card_bytes.specs.Bytes.{head-bytes, a-knot, knot-bytes, end-bytes, bytes-of};
 ghost use Rattle.knots.specs.Lent.{lent};
 ghost use Rattle.card_bytes.specs.Held.{start, count-at, card-of};
-ghost use Rattle.card_bytes.specs.Decoded.{Holds};
+ghost use Rattle.card_bytes.specs.Decoded.{Holds, Roomy};
 ghost use Rattle.card_bytes.specs.Records.{due, head-due, knot-due, end-due, records-due};
 
 // ---- 14
@@ -187,6 +188,36 @@ impl Card {
             ordinates,
             slopes,
             curvatures,
+        }
+    }
+
+    // Its numbers over the fronts of four lists that have room for them.
+    pub fn give(
+        self,
+        minutes: &mut [u16],
+        ordinates: &mut [i16],
+        slopes: &mut [i32],
+        curvatures: &mut [i32],
+    )
+        requires { ⌜ Roomy self (length (now minutes)) ⌝ }
+        requires { ⌜ (length (now ordinates) ≡ length (now minutes)) × (length (now slopes) ≡ length (now minutes)) × (length (now curvatures) ≡ length (now minutes)) ⌝ }
+        ensures { λ _. ⌜ now (minutes .exit) ≡ take (self .knots) (self .minutes) ++ drop (self .knots) (now (minutes .entry)) ⌝ }
+        ensures { λ _. ⌜ now (ordinates .exit) ≡ take (self .knots) (self .ordinates) ++ drop (self .knots) (now (ordinates .entry)) ⌝ }
+        ensures { λ _. ⌜ now (slopes .exit) ≡ take (self .knots) (self .slopes) ++ drop (self .knots) (now (slopes .entry)) ⌝ }
+        ensures { λ _. ⌜ now (curvatures .exit) ≡ take (self .knots) (self .curvatures) ++ drop (self .knots) (now (curvatures .entry)) ⌝ }
+    {
+        let n = self.knots;
+        let xs = self.minutes;
+        let ys = self.ordinates;
+        let ms = self.slopes;
+        let cs = self.curvatures;
+        let mut i: usize = 0;
+        while i < n {
+            minutes[i] = xs[i];
+            ordinates[i] = ys[i];
+            slopes[i] = ms[i];
+            curvatures[i] = cs[i];
+            i += 1;
         }
     }
 }
