@@ -22,7 +22,7 @@ unfolding knots card-of
 knots-of s = length-table (minute-at s) 0 (count-at s)
 
 module _ (s : List ℕ) (at kind long : ℕ) where
-  due-stands : due s at kind long ≡ accepted → isAt s at kind long ≡ true
+  pub due-stands : due s at kind long ≡ accepted → isAt s at kind long ≡ true
   unfolding due
   due-stands e = not-false _ (refuse-accepts 14 at _ e)
 

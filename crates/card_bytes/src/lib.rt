@@ -5,15 +5,15 @@ use record::Found;
 ghost use mathlib.Core.Path.{_≡_};
 ghost use Prim.Native.Nat.{_+_, _*_, _^_, _≤_, _<_};
 ghost use mathlib.Core.List.{_++_};
-ghost use lib.ListN.{length, take, drop};
+ghost use lib.ListN.{length, drop};
 ghost use lib.Seq.{sets};
 ghost use Rattle.answer.specs.Answer.{each};
 ghost use Rattle.answer.specs.Judge.{verdict-of};
 ghost use Rattle.curve.specs.Steps.{size};
 ghost use Rattle.card_bytes.specs.Bytes.{head-bytes, a-knot, knot-bytes, end-bytes, bytes-of};
 ghost use Rattle.knots.specs.Lent.{lent};
-ghost use Rattle.card_bytes.specs.Held.{start, count-at, card-of};
-ghost use Rattle.card_bytes.specs.Decoded.{Holds, Roomy};
+ghost use Rattle.card_bytes.specs.Held.{start, count-at};
+ghost use Rattle.card_bytes.specs.Decoded.{decoded, Full, Holds};
 ghost use Rattle.card_bytes.specs.Records.{due, head-due, knot-due, end-due, records-due};
 
 // ---- 14
@@ -161,10 +161,29 @@ impl Card {
     // The kind of a head, by the kind of card that it opens.
     pub const QUINTIC: u16 = 1;
 
+    // Of no knots.
+    pub fn none() -> Card
+        ensures { λ r. ⌜ r .knots ≡ 0 ⌝ }
+    {
+        let minutes = [0u16; 64];
+        let ordinates = [0i16; 64];
+        let slopes = [0i32; 64];
+        let curvatures = [0i32; 64];
+        Card {
+            knots: 0,
+            left: 0,
+            right: 0,
+            minutes,
+            ordinates,
+            slopes,
+            curvatures,
+        }
+    }
+
     // Of bytes that have a head, no more knots than there is place for, and a record for each.
     pub fn of(list: &[u8]) -> Card
         requires { ⌜ (count-at (now list) ≤ 64) × (start (count-at (now list)) ≤ length (now list)) ⌝ }
-        ensures { λ r. ⌜ Holds r (card-of (now (list .entry))) ⌝ }
+        ensures { λ r. ⌜ Holds r (now (list .entry)) ⌝ }
     {
         let n = record::read_u16(list, 4) as usize;
         let mut minutes = [0u16; 64];
@@ -199,25 +218,25 @@ impl Card {
         slopes: &mut [i32],
         curvatures: &mut [i32],
     )
-        requires { ⌜ Roomy self (length (now minutes)) ⌝ }
-        requires { ⌜ (length (now ordinates) ≡ length (now minutes)) × (length (now slopes) ≡ length (now minutes)) × (length (now curvatures) ≡ length (now minutes)) ⌝ }
-        ensures { λ _. ⌜ now (minutes .exit) ≡ take (self .knots) (self .minutes) ++ drop (self .knots) (now (minutes .entry)) ⌝ }
-        ensures { λ _. ⌜ now (ordinates .exit) ≡ take (self .knots) (self .ordinates) ++ drop (self .knots) (now (ordinates .entry)) ⌝ }
-        ensures { λ _. ⌜ now (slopes .exit) ≡ take (self .knots) (self .slopes) ++ drop (self .knots) (now (slopes .entry)) ⌝ }
-        ensures { λ _. ⌜ now (curvatures .exit) ≡ take (self .knots) (self .curvatures) ++ drop (self .knots) (now (curvatures .entry)) ⌝ }
+        requires { ⌜ Full self ⌝ }
+        requires { ⌜ (self .knots ≤ length (now minutes)) × (length (now ordinates) ≡ length (now minutes)) × (length (now slopes) ≡ length (now minutes)) × (length (now curvatures) ≡ length (now minutes)) ⌝ }
+        ensures { λ _. ⌜ now (minutes .exit) ≡ decoded self .minutes ++ drop (self .knots) (now (minutes .entry)) ⌝ }
+        ensures { λ _. ⌜ now (ordinates .exit) ≡ decoded self .ordinates ++ drop (self .knots) (now (ordinates .entry)) ⌝ }
+        ensures { λ _. ⌜ now (slopes .exit) ≡ decoded self .slopes ++ drop (self .knots) (now (slopes .entry)) ⌝ }
+        ensures { λ _. ⌜ now (curvatures .exit) ≡ decoded self .curvatures ++ drop (self .knots) (now (curvatures .entry)) ⌝ }
     {
         let n = self.knots;
         let xs = self.minutes;
         let ys = self.ordinates;
         let ms = self.slopes;
         let cs = self.curvatures;
-        let mut i: usize = 0;
-        while i < n {
-            minutes[i] = xs[i];
-            ordinates[i] = ys[i];
-            slopes[i] = ms[i];
-            curvatures[i] = cs[i];
-            i += 1;
+        let mut place: usize = 0;
+        while place < n {
+            minutes[place] = xs[place];
+            ordinates[place] = ys[place];
+            slopes[place] = ms[place];
+            curvatures[place] = cs[place];
+            place += 1;
         }
     }
 }

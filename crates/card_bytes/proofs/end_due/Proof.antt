@@ -1,7 +1,6 @@
 -- `card_bytes::end_due` meets its contract, by its two steps.
 -- Assumes nothing.
-use mathlib.Core.Path.{_∙_}
-use Rattle.answer.specs.Answer.{_then_}
+use Rattle.answer.proofs.Chain.{step-refuses, step-passes}
 use Rattle.card_bytes.specs.Records.{end-due}
 use borrow.Author.Needs.{needs}
 use Rattle.card_bytes.proofs.end_due.Statement.{statement}
@@ -39,16 +38,12 @@ refuse-requires : tie.Need-refuse-requires
 refuse-requires c κs = search needs
 
 returns : tie.Need-returns
-unfolding end-due _then_
-returns c =
-    let e = c .before .before .before in
-    rw (← e .due .ensures, c .before .number .given .1)
+unfolding end-due
+returns c = step-refuses _ (c .before .before .before .due .ensures) (c .before .number .given .1)
 
 returns-2 : tie.Need-returns-2
-unfolding end-due _then_
-returns-2 c =
-    let e = c .before .before .before in
-    c .refuse .ensures ∙ rw (← e .due .ensures, c .before .enum-told .given .1)
+unfolding end-due
+returns-2 c = step-passes _ (c .before .before .before .due .ensures) (c .before .enum-told .given .1) (c .refuse .ensures)
 
 pub end-due-spec : {M : Type 1} → statement M
 end-due-spec =

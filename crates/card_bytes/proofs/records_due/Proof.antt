@@ -1,7 +1,6 @@
 -- `card_bytes::records_due` meets its contract, by its two steps.
 -- Assumes nothing.
-use mathlib.Core.Path.{_∙_}
-use Rattle.answer.specs.Answer.{_then_}
+use Rattle.answer.proofs.Chain.{step-refuses, step-passes}
 use Rattle.card_bytes.specs.Records.{records-due}
 use borrow.Author.Needs.{needs}
 use Rattle.card_bytes.proofs.records_due.Statement.{statement}
@@ -24,12 +23,12 @@ end-due-requires : tie.Need-end-due-requires
 end-due-requires c κs = search needs
 
 returns : tie.Need-returns
-unfolding records-due _then_
-returns c = rw (← c .before .before .before .knots-due .ensures, c .before .number .given .1)
+unfolding records-due
+returns c = step-refuses _ (c .before .before .before .knots-due .ensures) (c .before .number .given .1)
 
 returns-2 : tie.Need-returns-2
-unfolding records-due _then_
-returns-2 c = c .end-due .ensures ∙ rw (← c .before .before .before .knots-due .ensures, c .before .enum-told .given .1)
+unfolding records-due
+returns-2 c = step-passes _ (c .before .before .before .knots-due .ensures) (c .before .enum-told .given .1) (c .end-due .ensures)
 
 pub records-due-spec : {M : Type 1} → statement M
 records-due-spec =

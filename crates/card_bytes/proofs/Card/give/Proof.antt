@@ -6,6 +6,7 @@ use native.Mathlib.Omega.{arith}
 use lib.IntN.{pos}
 use mir.Syntax.{w16, w32}
 use Rattle.record.proofs.Signs.{passed}
+use Rattle.card_bytes.specs.Decoded.{decoded}
 use Rattle.card_bytes.proofs.Tables.{from, Filled, filled-none, filled-more, filled-front}
 use Rattle.card_bytes.proofs.Card.give.Statement.{statement}
 use Rattle.card_bytes.proofs.Card.give.Tie as tie
@@ -13,11 +14,11 @@ use Rattle.card_bytes.proofs.Card.give.Reads as reads
 use Rattle.card_bytes.proofs.Card.give.Lts as lts
 
 abbrev Inv-loop : tie.InvT-loop
-Inv-loop minutes₀ ordinates₀ slopes₀ curvatures₀ n xs ys ms cs i₀ minutes ordinates slopes curvatures i =
-    (i ≤ n) × Filled (from 0 xs) i minutes₀ minutes × Filled (from (pos 0) ys) i ordinates₀ ordinates × Filled (from (pos 0) ms) i slopes₀ slopes × Filled (from (pos 0) cs) i curvatures₀ curvatures
+Inv-loop minutes₀ ordinates₀ slopes₀ curvatures₀ n xs ys ms cs place₀ minutes ordinates slopes curvatures place =
+    (place ≤ n) × Filled (from 0 xs) place minutes₀ minutes × Filled (from (pos 0) ys) place ordinates₀ ordinates × Filled (from (pos 0) ms) place slopes₀ slopes × Filled (from (pos 0) cs) place curvatures₀ curvatures
 
 abbrev μ-loop : tie.MeasureT-loop
-μ-loop minutes₀ ordinates₀ slopes₀ curvatures₀ n xs ys ms cs i₀ minutes ordinates slopes curvatures i = n - i
+μ-loop minutes₀ ordinates₀ slopes₀ curvatures₀ n xs ys ms cs place₀ minutes ordinates slopes curvatures place = n - place
 
 loop-holds : tie.Need-loop-holds Inv-loop μ-loop
 loop-holds c = (omega arith, filled-none, filled-none, filled-none, filled-none)
@@ -70,8 +71,8 @@ mul-t17-2 c = omega arith
 slice-set-from-curvatures-2 : tie.Need-slice-set-from-curvatures-2 Inv-loop μ-loop
 slice-set-from-curvatures-2 c = omega arith
 
-add-i : tie.Need-add-i Inv-loop μ-loop
-add-i c = omega arith
+add-place : tie.Need-add-place Inv-loop μ-loop
+add-place c = omega arith
 
 loop-less : tie.Need-loop-less Inv-loop μ-loop
 loop-less c = omega arith
@@ -100,16 +101,17 @@ same-length-4 : tie.Need-same-length-4 Inv-loop μ-loop
 same-length-4 c = omega arith
 
 returns : tie.Need-returns Inv-loop μ-loop
+unfolding decoded
 returns c =
     let v = c .before .loop .inv in
     let s = c .before .before .before .before .before .before in
-    let e : c .before .loop .i ≡ s .args .self .knots = omega arith in
-    let room = s .pre .0 in
+    let e : c .before .loop .place ≡ s .args .self .knots = omega arith in
+    let full = s .pre .0 in
     let d = s .args .self in (
-      filled-front 0 (d .minutes) (v .1) e (room .minutes),
+      filled-front 0 (d .minutes) (v .1) e (full .minutes),
       (
-        filled-front (pos 0) (d .ordinates) (v .2) e (room .ordinates),
-        (filled-front (pos 0) (d .slopes) (v .3) e (room .slopes), filled-front (pos 0) (d .curvatures) (v .4) e (room .curvatures)),
+        filled-front (pos 0) (d .ordinates) (v .2) e (full .ordinates),
+        (filled-front (pos 0) (d .slopes) (v .3) e (full .slopes), filled-front (pos 0) (d .curvatures) (v .4) e (full .curvatures)),
       ),
     )
 
@@ -136,7 +138,7 @@ give-spec =
     array-copy-out-curvatures
     mul-t17-2
     slice-set-from-curvatures-2
-    add-i
+    add-place
     loop-less
     loop-again
     same-length

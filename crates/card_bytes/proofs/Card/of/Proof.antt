@@ -5,10 +5,10 @@ use mathlib.Core.Path.{_≡_, _∙_, sym}
 use native.Mathlib.Omega.{arith}
 use mir.Syntax.{w16, w32}
 use Rattle.record.proofs.Signs.{passed}
-use Rattle.curve.specs.Card.{knots}
+use Rattle.card_bytes.specs.Decoded.{decoded}
 use Rattle.card_bytes.specs.Held.{minute-at, ordinate-at, slope-at, curvature-at, card-of}
 use borrow.Author.Needs.{needs}
-use Rattle.card_bytes.proofs.Tables.{length-table, Filled, filled-none, filled-more, filled-take}
+use Rattle.card_bytes.proofs.Tables.{Filled, filled-none, filled-more, filled-take}
 use Rattle.card_bytes.proofs.Card.of.Statement.{statement}
 use Rattle.card_bytes.proofs.Card.of.Tie as tie
 use Rattle.card_bytes.proofs.Card.of.Reads as reads
@@ -111,21 +111,23 @@ read-u16-requires-4 : tie.Need-read-u16-requires-4 Inv-loop μ-loop
 read-u16-requires-4 c κs = search needs
 
 returns : tie.Need-returns Inv-loop μ-loop
-unfolding card-of knots
+unfolding card-of decoded
 returns c =
     let l = c .before .before .before in
     let v = l .loop .inv in
     let n = l .before .read-u16 .ensures in
     let e : l .loop .i ≡ l .before .read-u16 .result = omega arith in
     record {
-      count = n ∙ sym (length-table _ 0 _);
-      few = omega arith;
-      left = c .before .read-u163 .ensures;
-      right = c .read-u164 .ensures;
-      minutes = filled-take (v .1) (e ∙ n) n;
-      ordinates = filled-take (v .2) (e ∙ n) n;
-      slopes = filled-take (v .3) (e ∙ n) n;
-      curvatures = filled-take (v .4) (e ∙ n) n;
+      full = record { few = omega arith; minutes = omega arith; ordinates = omega arith; slopes = omega arith; curvatures = omega arith };
+      is = λ t.
+          record {
+            minutes = filled-take (v .1) (e ∙ n) n t;
+            ordinates = filled-take (v .2) (e ∙ n) n t;
+            slopes = filled-take (v .3) (e ∙ n) n t;
+            curvatures = filled-take (v .4) (e ∙ n) n t;
+            left = c .before .read-u163 .ensures t;
+            right = c .read-u164 .ensures t;
+          };
     }
 
 pub of-spec : {M : Type 1} → statement M
