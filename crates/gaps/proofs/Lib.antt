@@ -1,0 +1,5 @@
+pub mod Sizes
+pub mod Numerators
+pub mod Minutes
+pub mod Terms
+pub mod Comparing
