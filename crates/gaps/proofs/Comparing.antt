@@ -1,18 +1,17 @@
 -- The jump test's numbers, as the machine's tests take them: the limits of a side, what clears a gap, a jump of either sign.
 -- Assumes nothing.
 use mathlib.Core.Path.{_≡_, refl, _∙_, ap}
-use mathlib.Core.Bool.{Bool, not, _&&_}
+use mathlib.Core.Bool.{not, _&&_}
 use mathlib.Core.Logic.{⊎-elim}
 use mathlib.Core.List.{List, [], _∷_}
 use Prim.Native.Nat.{ℕ, zero, suc, _+_, _*_, _≤_, _<_, _^_}
 use native.Mathlib.Nat.{mul-le-mul, le-refl, le-trans, one-le-pow, pow-le-pow-left, pow-le-pow-right, pow-suc, pow-zero, one-mul, mul-one, mul-le-mul-left}
 use native.Mathlib.Omega.{arith}
 use lib.Dec.{T, leb, ltb, ltb→lt, leb→le, lit≤}
-use lib.IntN.{ℤ, pos, negsuc, negℤ, natAbs, _+ℤ_, _-ℤ_, _*ℤ_}
+use lib.IntN.{ℤ, pos, negsuc, negℤ, natAbs, _*ℤ_}
 use lib.Signed.{_≤ℤ_, _<ℤ_, ltZ, leZ}
 use borrow.Author.Tests.{le-ltb, lt-ltb, le-leb, lt-leb}
 use mir.Syntax.{w64}
-use Rattle.whole.specs.Whole.{_·_}
 use Rattle.whole.proofs.Order.{linear, ≤ℤ-or, abs-neg, abs-is}
 use Rattle.whole.proofs.Solve.{E, _:+_, _:-_, _:*_, #, both-l, both-r, v0 as h, v1 as y, v2 as m, v3 as k, v4 as y′, v5 as m′, v6 as k′}
 use Rattle.whole.proofs.Linear.{Within, bounded}
@@ -24,7 +23,7 @@ use Rattle.gaps.specs.declared.Knot.{Knot}
 use Rattle.gaps.specs.declared.Order.{Order}
 use Rattle.gaps.specs.declared.Order.the-variants.{Third, Fourth}
 use Rattle.gaps.specs.Weights.{mirror}
-use Rattle.gaps.specs.Sides.{order-of, side, opposed, left-side, clears, past}
+use Rattle.gaps.specs.Sides.{order-of, side, opposed, left-side, past}
 use Rattle.gaps.specs.Limits.{widest, Limits, Keeps, Gap, Held, Tried, side-most, order-fits, pair-fits, modest}
 use Rattle.gaps.proofs.Minutes.{gap-in}
 use Rattle.gaps.proofs.Numerators.{mirror-keeps}
@@ -96,15 +95,15 @@ clear-fourth (pos zero) p = absurd (omega linear)
 clear-fourth (pos (suc n)) p = ap pos (ap (λ z. z * suc n) (cube (suc n)) ∙ rw (pow-suc (suc n) 3))
 clear-fourth (negsuc n) p = absurd (p .le)
 
-clear-in : (d : ℕ) {h : ℕ} → h ≤ widest → clear h d ≤ widest ^ d
+clear-in : (d h : ℕ) → h ≤ widest → clear h d ≤ widest ^ d
 unfolding clear
-clear-in d {h = zero} p = one-le-pow d widest (omega arith)
-clear-in d {h = suc n} p = pow-le-pow-left p d
+clear-in d zero p = one-le-pow d widest (omega arith)
+clear-in d (suc n) p = pow-le-pow-left p d
 
-pub clears-most : (o : Order) {h : ℕ} → h ≤ widest → clear h (degree (order-of o)) ≤ widest ^ 4
+pub clears-most : (o : Order) (h : ℕ) → h ≤ widest → clear h (degree (order-of o)) ≤ widest ^ 4
 unfolding degree
-clears-most Third p = le-trans (clear-in 3 p) (pow-le-pow-right {n = widest} (omega arith) (lit≤ tt))
-clears-most Fourth p = clear-in 4 p
+clears-most Third h p = le-trans (clear-in 3 h p) (pow-le-pow-right {n = widest} (omega arith) {i = 3} {j = 4} (lit≤ tt))
+clears-most Fourth h p = clear-in 4 h p
 
 clear-least : (h d : ℕ) → 1 ≤ clear h d
 unfolding clear

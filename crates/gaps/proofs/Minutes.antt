@@ -1,14 +1,14 @@
 -- A gap, and a minute within a gap, as the machine's tests take them.
 -- Assumes nothing.
 use mathlib.Core.List.{List, [], _∷_}
-use Prim.Native.Nat.{ℕ, _≤_, _^_}
+use Prim.Native.Nat.{_≤_}
 use lib.IntN.{ℤ, pos, natAbs, _-ℤ_}
 use lib.Signed.{≤ℤ-refl}
 use mir.Syntax.{w64}
 use Rattle.whole.proofs.Ring.{sub-diff}
 use Rattle.whole.proofs.Order.{linear, ≤ℤ-trans, sub-nonneg, abs-le}
-use Rattle.whole.proofs.Interval.{Iv, _∈_, _to_, ±}
-use Rattle.whole.proofs.Machine.{Src, held, In}
+use Rattle.whole.proofs.Interval.{Iv, _∈_, _to_}
+use Rattle.whole.proofs.Machine.{held, In}
 use Rattle.gaps.specs.Limits.{widest, Gap, In-gap}
 
 abbrev pub gap-tops : List Iv

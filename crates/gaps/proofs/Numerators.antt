@@ -1,20 +1,20 @@
 -- What both knots add is the numerator of the exact curve, or of its derivative; it fits 64 bits, and what is read fits 32, where the knots keep within
 -- limits that do; and what is read is document 01's reading.
 -- Assumes nothing.
-use mathlib.Core.Path.{_≡_, refl, sym, _∙_, ap, ap₂}
-use mathlib.Core.Bool.{Bool, _&&_}
+use mathlib.Core.Path.{_≡_, refl, _∙_, ap, ap₂}
+use mathlib.Core.Bool.{_&&_}
 use mathlib.Core.List.{List, [], _∷_}
 use Prim.Native.Nat.{ℕ, _+_, _-_, _*_, _≤_, _<_, _^_}
-use native.Mathlib.Nat.{sub-zero, one-le-pow, mul-le-mul-left}
+use native.Mathlib.Nat.{sub-zero, one-le-pow}
 use native.Mathlib.Omega.{arith}
 use lib.Dec.{T, ltb, leb, ltb→lt, leb→le}
-use lib.IntN.{ℤ, pos, negsuc, negℤ, natAbs, _+ℤ_, _-ℤ_, _*ℤ_}
+use lib.IntN.{ℤ, pos, negsuc, natAbs, _+ℤ_, _-ℤ_, _*ℤ_}
 use lib.Signed.{_≤ℤ_}
 use Rattle.whole.specs.Whole.{_·_, nearest}
 use Rattle.whole.proofs.Order.{linear, abs-add, abs-sub, abs-mul, abs-neg, abs-is, abs-le}
 use Rattle.whole.proofs.Solve.{E, _:+_, _:-_, _:*_, :neg, #, ring, both-l, both-r}
 use Rattle.whole.proofs.Rounding.{nearest-same, nearest-most}
-use Rattle.curve.specs.Formula.{Formula, num, power, worth, ∂, ∂^}
+use Rattle.curve.specs.Formula.{Formula, power, worth, ∂, ∂^}
 use Rattle.curve.specs.Curve.{N}
 use Rattle.curve.specs.Card.{gap}
 use Rattle.curve.specs.Reading.{between, denominator, reads}
@@ -195,7 +195,7 @@ module _ (q : Quantity) {h t : ℤ} (g : In-gap h t) {a b : Knot} (w : Tame h a 
       omega (
         arith,
         nearest-most (worth (∂^ (derivative q) (drawn h a b)) t) (under q * natAbs h ^ 5) (2 ^ 31 - 1) denominator-positive
-        (omega (arith, numerator-size, within, fits .read)),
+            (omega (arith, numerator-size, within, fits .read)),
       )
 
 -- ---- the reading

@@ -3,13 +3,13 @@
 -- Assumes nothing.
 use mathlib.Core.Path.{_≡_, sym, _∙_, ap, subst}
 use mathlib.Core.List.{List, [], _∷_}
-use Prim.Native.Nat.{ℕ, zero, suc, _+_, _-_, _*_, _≤_, _<_, _^_}
+use Prim.Native.Nat.{ℕ, suc, _+_, _-_, _*_, _≤_, _^_}
 use native.Mathlib.Nat.{add-comm, mul-le-mul, mul-le-mul-left, mul-add, mul-left-comm, le-trans, le-refl, pow-zero, pow-suc, one-mul}
 use native.Mathlib.Omega.{arith}
-use lib.IntN.{ℤ, pos, negsuc, negℤ, natAbs, _+ℤ_, _-ℤ_, _*ℤ_}
+use lib.IntN.{ℤ, pos, negsuc, negℤ, natAbs, _-ℤ_, _*ℤ_}
 use lib.Signed.{_≤ℤ_}
-use Rattle.whole.proofs.Ring.{up, dn, up-neg, dn-neg, sub-diff, diff-eq}
-use Rattle.whole.proofs.Order.{linear, ≤ℤ-trans, up-nonneg, dn-zero, sub-nonneg, *ℤ-nonneg, square-nonneg, abs-le, abs-neg, abs-mul}
+use Rattle.whole.proofs.Ring.{up, sub-diff, diff-eq}
+use Rattle.whole.proofs.Order.{linear, ≤ℤ-trans, up-nonneg, dn-zero, sub-nonneg, *ℤ-nonneg, square-nonneg, abs-le, abs-mul}
 use Rattle.whole.proofs.Solve.{E, var, con, _:+_, _:-_, _:*_, :neg, _:^_, #, ring, val, at, v0, v1}
 use Rattle.whole.proofs.Linear.{know≤, prove≤, bounded, bound}
 use Rattle.curve.specs.Formula.{num, power, worth, ∂, ∂^}

@@ -12,10 +12,10 @@ use Rattle.whole.specs.Whole.{_·_}
 use Rattle.whole.proofs.Order.{abs-add, abs-mul}
 use Rattle.whole.proofs.Linear.{abs-fits}
 use Rattle.whole.proofs.Solve.{E, _:+_, _:*_, #, v0 as h, v1 as y, v2 as m, v3 as c, v4 as o, v5 as s, v6 as v}
-use Rattle.whole.proofs.Machine.{Src, held, Op, Ok}
+use Rattle.whole.proofs.Machine.{Src, held, Ok}
 use Rattle.gaps.specs.declared.Knot.{Knot}
 use Rattle.gaps.specs.declared.Weights.{Weights}
-use Rattle.gaps.specs.Limits.{widest, load, Light}
+use Rattle.gaps.specs.Limits.{load, Light}
 
 abbrev pub ordinates : E
 ordinates = # 8192 :* (y :* o)

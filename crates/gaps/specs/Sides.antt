@@ -5,6 +5,7 @@ use mathlib.Core.Bool.{Bool, not}
 use lib.IntN.{ℤ, pos, negℤ, natAbs, _+ℤ_, _-ℤ_, _*ℤ_}
 use lib.Signed.{leZ}
 use Rattle.whole.specs.Whole.{_·_}
+use Rattle.curve.specs.Formula.{Formula, _⊕_, _⊗_, _⊛_}
 use Rattle.curve.specs.Curve as Curve
 use Rattle.curve.specs.Curve.{degree}
 use Rattle.curve.specs.Jump.{clear}
@@ -40,7 +41,17 @@ clears o h = pos (clear (natAbs h) (degree (order-of o)))
 unfoldable pub jump-of : Order → (q h : ℤ) → (before here after : Knot) → ℤ
 jump-of o q h before here after = side o h here after *ℤ clears o q +ℤ opposed o (left-side o q here before) *ℤ clears o h
 
--- an allowance of square·g² + 4g for the third, or square·g³ + 4g² for the fourth, cleared; and both sides'
+-- an allowance per side of square·g² + 4g for the third, square·g³ + 4g² for the fourth
+unfoldable pub allowing : {A : Type 0} → Formula A → Order → (ℕ → Formula A) → Formula A
+allowing square Third g = square ⊗ g 2 ⊕ 4 ⊛ g 1
+allowing square Fourth g = square ⊗ g 3 ⊕ 4 ⊛ g 2
+
+-- "16g2 + 4g for the third, 20g3 + 4g2 for the fourth"
+abbrev pub quintic-square : Order → ℕ
+quintic-square Third = 16
+quintic-square Fourth = 20
+
+-- cleared; and both sides'
 unfoldable pub leeway : ℤ → ℤ → ℤ
 leeway square h = (square +ℤ 4 · h) *ℤ h
 

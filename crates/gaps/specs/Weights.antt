@@ -1,7 +1,7 @@
 -- Document 01, "The exact curve", as what its knots' numbers weigh in it: a quantity's numerator at τ is what the left knot adds at τ, and what the right
 -- knot, seen in the mirror, adds at h − τ. The weights in the slope and the curvature are the formal derivatives of those in the value. Assumes nothing.
 use Prim.Native.Nat.{ℕ, _+_, _*_}
-use lib.IntN.{ℤ, pos, negℤ, natAbs, _+ℤ_, _*ℤ_}
+use lib.IntN.{ℤ, negℤ, natAbs, _+ℤ_, _*ℤ_}
 use Rattle.whole.specs.Whole.{_·_}
 use Rattle.curve.specs.Formula.{Formula, τ, num, _⊕_, _⊖_, _⊗_, _⊛_, _^^_, worth, ∂^}
 use Rattle.curve.specs.Card
@@ -43,6 +43,10 @@ adds h k w = 8192 · (k .ordinate *ℤ w .ordinate) +ℤ 2 · h *ℤ (k .slope *
 -- the knot with these numbers at minute x
 abbrev pub placed : ℕ → Knot → Card.Knot
 placed x k = record { x = x; y = k .ordinate; m = k .slope; M = k .curvature }
+
+-- what it has besides its minute
+abbrev pub numbers : Card.Knot → Knot
+numbers k = record { ordinate = k .y; slope = k .m; curvature = k .M }
 
 -- the exact curve from knot a to knot b on a gap h
 unfoldable pub drawn : ℤ → Knot → Knot → Formula ℤ

@@ -1,6 +1,6 @@
 -- `adds` meets its contract: each operation fits by the sum of the terms' sizes.
 -- Assumes nothing.
-use mathlib.Core.List.{List, [], _∷_}
+use mathlib.Core.List.{List}
 use mir.Syntax.{w64}
 use mir.Val.{SFits}
 use Rattle.whole.proofs.Solve.{E, _:+_, _:*_, #, v0 as h, v1 as y, v2 as m, v3 as k, v4 as o, v5 as s, v6 as v}

@@ -1,8 +1,8 @@
 -- `denominator` meets its contract.
 -- Assumes nothing.
-use mathlib.Core.Path.{_≡_, _∙_, ap₂}
-use mathlib.Core.List.{List, [], _∷_}
-use Prim.Native.Nat.{ℕ, _*_, _<_, _≤_, _^_}
+use mathlib.Core.Path.{_≡_, ap₂}
+use mathlib.Core.List.{[], _∷_}
+use Prim.Native.Nat.{_*_, _≤_, _^_}
 use native.Mathlib.Nat.{mul-le-mul, pow-le-pow-left}
 use native.Mathlib.Omega.{arith}
 use borrow.Author.Needs.{needs}
@@ -13,12 +13,12 @@ use mir.Syntax.{w64}
 use mir.Val.{SFits, Fits}
 use Rattle.whole.proofs.Order.{linear, abs-le}
 use Rattle.whole.proofs.Solve.{E, _:*_, v0 as h}
-use Rattle.whole.proofs.Interval.{Within, at-least}
-use Rattle.whole.proofs.Machine.{held, In, res, safe, step, asks}
+use Rattle.whole.proofs.Interval.{at-least}
+use Rattle.whole.proofs.Machine.{held, res, safe, step, asks}
 use Rattle.gaps.specs.declared.Quantity.{Quantity}
 use Rattle.gaps.specs.declared.Quantity.the-variants.{Value, Slope, Curvature}
 use Rattle.gaps.specs.Weights.{under}
-use Rattle.gaps.specs.Limits.{widest, In-gap}
+use Rattle.gaps.specs.Limits.{widest}
 use Rattle.gaps.proofs.Minutes.{gap-tops, minute-in}
 use Rattle.gaps.proofs.Sizes.{fifth-power}
 use Rattle.gaps.proofs.denominator.Statement.{statement}

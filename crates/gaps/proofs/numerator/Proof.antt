@@ -9,7 +9,7 @@ use lib.IntN.{ℤ, natAbs, _+ℤ_, _-ℤ_}
 use mir.Syntax.{w64}
 use Rattle.whole.proofs.Order.{linear, abs-add, abs-sub}
 use Rattle.whole.proofs.Linear.{abs-fits}
-use Rattle.whole.proofs.Solve.{E, _:+_, _:-_, v0, v1}
+use Rattle.whole.proofs.Solve.{_:+_, _:-_, v0, v1}
 use Rattle.whole.proofs.Machine.{Src, held, In, Ok, does, gave, step, asks, gives}
 use Rattle.curve.specs.Formula.{worth, ∂^}
 use Rattle.gaps.specs.declared.Quantity.{Quantity}

@@ -1,155 +1,77 @@
+-- `side` meets its contract: its operations fit by the intervals of its numbers.
+-- Assumes nothing.
+use mathlib.Core.Path.{sym, _∙_, ap}
+use mathlib.Core.List.{List}
 use borrow.Author.Needs.{needs}
+use lib.Dec.{T}
+use mir.Syntax.{w64}
+use mir.Val.{SFits}
+use Rattle.whole.proofs.Solve.{E, _:+_, _:-_, _:*_, #, v0 as h, v1 as y, v2 as m, v3 as k, v4 as y′, v5 as m′, v6 as k′}
+use Rattle.whole.proofs.Machine.{Src, res, safe, step, back}
+use Rattle.gaps.specs.declared.Order.the-variants.{Third, Fourth}
+use Rattle.gaps.specs.Sides.{side}
+use Rattle.gaps.proofs.Comparing.{side-args, side-tops, side-in, rise, sideE}
 use Rattle.gaps.proofs.side.Statement.{statement}
 use Rattle.gaps.proofs.side.Tie as tie
-use Rattle.gaps.proofs.side.Reads as reads
-use Rattle.gaps.proofs.side.Lts as lts
 
--- src/lib.rt:192:24
-sub-rise : tie.Need-sub-rise
-sub-rise c = ?
+abbrev start : tie.After-struct-told6 → tie.Start
+start c = c .before .before .before .before .before .before
 
--- src/lib.rt:192:16
-mul-rise : tie.Need-mul-rise
-mul-rise c = ?
+abbrev args : tie.After-struct-told6 → List Src
+args c = let a = start c .args in side-args (a .h) (a .here) (a .next)
 
--- src/lib.rt:194:25
-enum-told : tie.Need-enum-told
-enum-told c = search needs
+op : (e : E) → T (safe w64 side-tops e) → (c : tie.After-struct-told6) → SFits w64 (res w64 (args c) e)
+op e t c = step (side-in (start c .pre)) e t
 
--- src/lib.rt:194:25
-mul-result : tie.Need-mul-result
-mul-result c = ?
+-- an operation of either arm
+third : (e : E) → T (safe w64 side-tops e) → (c : tie.After-enum-told) → SFits w64 (res w64 (args (c .before .before)) e)
+third e t c = op e t (c .before .before)
 
--- src/lib.rt:194:38
-mul-result-2 : tie.Need-mul-result-2
-mul-result-2 c = ?
+fourth : (e : E) → T (safe w64 side-tops e) → (c : tie.After-enum-told2) → SFits w64 (res w64 (args (c .before .before)) e)
+fourth e t c = op e t (c .before .before)
 
--- src/lib.rt:194:47
-mul-result-3 : tie.Need-mul-result-3
-mul-result-3 c = ?
-
--- src/lib.rt:194:38
-add-result : tie.Need-add-result
-add-result c = ?
-
--- src/lib.rt:194:37
-mul-result-4 : tie.Need-mul-result-4
-mul-result-4 c = ?
-
--- src/lib.rt:194:25
-sub-result : tie.Need-sub-result
-sub-result c = ?
-
--- src/lib.rt:194:62
-mul-result-5 : tie.Need-mul-result-5
-mul-result-5 c = ?
-
--- src/lib.rt:194:62
-sub-result-2 : tie.Need-sub-result-2
-sub-result-2 c = ?
-
--- src/lib.rt:194:61
-mul-result-6 : tie.Need-mul-result-6
-mul-result-6 c = ?
-
--- src/lib.rt:194:61
-mul-result-7 : tie.Need-mul-result-7
-mul-result-7 c = ?
-
--- src/lib.rt:194:25
-sub-result-3 : tie.Need-sub-result-3
-sub-result-3 c = ?
-
--- src/lib.rt:195:27
-enum-told-2 : tie.Need-enum-told-2
-enum-told-2 c = search needs
-
--- src/lib.rt:195:27
-mul-result-8 : tie.Need-mul-result-8
-mul-result-8 c = ?
-
--- src/lib.rt:195:36
-mul-result-9 : tie.Need-mul-result-9
-mul-result-9 c = ?
-
--- src/lib.rt:195:27
-add-result-2 : tie.Need-add-result-2
-add-result-2 c = ?
-
--- src/lib.rt:195:26
-mul-result-10 : tie.Need-mul-result-10
-mul-result-10 c = ?
-
--- src/lib.rt:195:52
-mul-result-11 : tie.Need-mul-result-11
-mul-result-11 c = ?
-
--- src/lib.rt:195:60
-mul-result-12 : tie.Need-mul-result-12
-mul-result-12 c = ?
-
--- src/lib.rt:195:52
-sub-result-4 : tie.Need-sub-result-4
-sub-result-4 c = ?
-
--- src/lib.rt:195:51
-mul-result-13 : tie.Need-mul-result-13
-mul-result-13 c = ?
-
--- src/lib.rt:195:51
-mul-result-14 : tie.Need-mul-result-14
-mul-result-14 c = ?
-
--- src/lib.rt:195:26
-add-result-3 : tie.Need-add-result-3
-add-result-3 c = ?
-
--- src/lib.rt:195:78
-mul-result-15 : tie.Need-mul-result-15
-mul-result-15 c = ?
-
--- src/lib.rt:195:26
-sub-result-5 : tie.Need-sub-result-5
-sub-result-5 c = ?
-
--- src/lib.rt:182:1
 returns : tie.Need-returns
-returns c = ?
+unfolding side
+returns c =
+    let d = start (c .before .before) in
+    back (side-in (d .pre)) (sideE Third) tt ∙ ap (λ o. side o (d .args .h) (d .args .here) (d .args .next)) (sym (c .enum-told .given .1))
 
--- src/lib.rt:182:1
 returns-2 : tie.Need-returns-2
-returns-2 c = ?
+unfolding side
+returns-2 c =
+    let d = start (c .before .before) in
+    back (side-in (d .pre)) (sideE Fourth) tt ∙ ap (λ o. side o (d .args .h) (d .args .here) (d .args .next)) (sym (c .enum-told2 .given .1))
 
 pub side-spec : {M : Type 1} → statement M
 side-spec =
     tie.close
     (tie.spec
-    sub-rise
-    mul-rise
-    enum-told
-    mul-result
-    mul-result-2
-    mul-result-3
-    add-result
-    mul-result-4
-    sub-result
-    mul-result-5
-    sub-result-2
-    mul-result-6
-    mul-result-7
-    sub-result-3
-    enum-told-2
-    mul-result-8
-    mul-result-9
-    add-result-2
-    mul-result-10
-    mul-result-11
-    mul-result-12
-    sub-result-4
-    mul-result-13
-    mul-result-14
-    add-result-3
-    mul-result-15
-    sub-result-5
+    (op (y′ :- y) tt)
+    (op rise tt)
+    (λ c. search needs)
+    (third (# 20 :* rise) tt)
+    (third (# 12 :* m) tt)
+    (third (# 8 :* m′) tt)
+    (third (# 12 :* m :+ # 8 :* m′) tt)
+    (third ((# 12 :* m :+ # 8 :* m′) :* h) tt)
+    (third (# 20 :* rise :- (# 12 :* m :+ # 8 :* m′) :* h) tt)
+    (third (# 3 :* k) tt)
+    (third (# 3 :* k :- k′) tt)
+    (third ((# 3 :* k :- k′) :* h) tt)
+    (third ((# 3 :* k :- k′) :* h :* h) tt)
+    (third (sideE Third) tt)
+    (λ c. search needs)
+    (fourth (# 16 :* m) tt)
+    (fourth (# 14 :* m′) tt)
+    (fourth (# 16 :* m :+ # 14 :* m′) tt)
+    (fourth ((# 16 :* m :+ # 14 :* m′) :* h) tt)
+    (fourth (# 3 :* k) tt)
+    (fourth (# 2 :* k′) tt)
+    (fourth (# 3 :* k :- # 2 :* k′) tt)
+    (fourth ((# 3 :* k :- # 2 :* k′) :* h) tt)
+    (fourth ((# 3 :* k :- # 2 :* k′) :* h :* h) tt)
+    (fourth ((# 16 :* m :+ # 14 :* m′) :* h :+ (# 3 :* k :- # 2 :* k′) :* h :* h) tt)
+    (fourth (# 30 :* rise) tt)
+    (fourth (sideE Fourth) tt)
     returns
     returns-2)

@@ -1,7 +1,7 @@
 -- `Reading::between` meets its contract: the three are rounded as document 01 rounds them.
 -- Assumes nothing.
 use mathlib.Core.Path.{_≡_, sym, _∙_}
-use mathlib.Core.List.{List, [], _∷_}
+use mathlib.Core.List.{[], _∷_}
 use Prim.Native.Nat.{_<_, _^_}
 use borrow.Author.Needs.{needs}
 use lib.IntN.{ℤ}

@@ -1,7 +1,7 @@
 -- `Weights::of_curvature` meets its contract: its expressions are the formal derivatives of the weights in the value.
 -- Assumes nothing.
-use mathlib.Core.Path.{_≡_, _∙_}
-use mathlib.Core.List.{List, [], _∷_}
+use mathlib.Core.Path.{_∙_}
+use mathlib.Core.List.{[], _∷_}
 use lib.Dec.{T}
 use mir.Syntax.{w64}
 use mir.Val.{SFits}

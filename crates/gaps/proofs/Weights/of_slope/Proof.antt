@@ -1,7 +1,7 @@
 -- `Weights::of_slope` meets its contract: its expressions are the formal derivatives of the weights in the value.
 -- Assumes nothing.
-use mathlib.Core.Path.{_≡_, _∙_}
-use mathlib.Core.List.{List, [], _∷_}
+use mathlib.Core.Path.{_∙_}
+use mathlib.Core.List.{[], _∷_}
 use lib.Dec.{T}
 use lib.IntN.{negsuc}
 use mir.Syntax.{w64}
