@@ -13,7 +13,7 @@ use lib.Signed.{_≤ℤ_, _<ℤ_, ltZ, leZ}
 use borrow.Author.Tests.{le-ltb, lt-ltb, le-leb, lt-leb}
 use mir.Syntax.{w64}
 use Rattle.whole.proofs.Order.{linear, ≤ℤ-or, abs-neg, abs-is}
-use Rattle.whole.proofs.Solve.{E, _:+_, _:-_, _:*_, #, both-l, both-r, v0 as h, v1 as y, v2 as m, v3 as k, v4 as y′, v5 as m′, v6 as k′}
+use Rattle.whole.proofs.Solve.{E, _:+_, _:-_, _:*_, #, both-l, both-r, v0, v1, v2, v3, v4, v5, v6}
 use Rattle.whole.proofs.Linear.{Within, bounded}
 use Rattle.whole.proofs.Interval.{Iv, _to_, ±, ∈-abs}
 use Rattle.whole.proofs.Machine.{Src, held, In}
@@ -42,13 +42,13 @@ side-in p =
     let n = p .other in
     record { each = (gap-in (p .gap), (∈-abs (o .ordinate), (∈-abs (o .slope), (∈-abs (o .curvature), (∈-abs (n .ordinate), (∈-abs (n .slope), (∈-abs (n .curvature), tt))))))) }
 
--- the two sides' expressions
-abbrev pub rise : E
-rise = # 4096 :* (y′ :- y)
+-- the sides' expressions
+abbrev pub rise : E → E → E
+rise y y′ = # 4096 :* (y′ :- y)
 
-abbrev pub sideE : Order → E
-sideE Third = # 20 :* rise :- (# 12 :* m :+ # 8 :* m′) :* h :- (# 3 :* k :- k′) :* h :* h
-sideE Fourth = (# 16 :* m :+ # 14 :* m′) :* h :+ (# 3 :* k :- # 2 :* k′) :* h :* h :- # 30 :* rise
+abbrev pub sideE : Order → (h y m k y′ m′ k′ : E) → E
+sideE Third h y m k y′ m′ k′ = # 20 :* rise y y′ :- (# 12 :* m :+ # 8 :* m′) :* h :- (# 3 :* k :- k′) :* h :* h
+sideE Fourth h y m k y′ m′ k′ = (# 16 :* m :+ # 14 :* m′) :* h :+ (# 3 :* k :- # 2 :* k′) :* h :* h :- # 30 :* rise y y′
 
 pub side-size : (o : Order) (h : ℤ) (k k′ : Knot) (L : Limits) → Keeps L k → Keeps L k′ → natAbs (side o h k k′) ≤ side-most o L (natAbs h)
 unfolding side side-most
@@ -64,8 +64,8 @@ side-size o h k k′ L p q = go o
     within = record { each = (le-refl (natAbs h), (p .ordinate, (p .slope, (p .curvature, (q .ordinate, (q .slope, (q .curvature, tt))))))) }
 
     go : (o : Order) → natAbs (side o h k k′) ≤ side-most o L (natAbs h)
-    go Third = bounded {xs = numbers} {bs = limits} within (sideE Third)
-    go Fourth = bounded {xs = numbers} {bs = limits} within (sideE Fourth)
+    go Third = bounded {xs = numbers} {bs = limits} within (sideE Third v0 v1 v2 v3 v4 v5 v6)
+    go Fourth = bounded {xs = numbers} {bs = limits} within (sideE Fourth v0 v1 v2 v3 v4 v5 v6)
 
 pub opposed-size : (o : Order) (z : ℤ) → natAbs (opposed o z) ≡ natAbs z
 unfolding opposed

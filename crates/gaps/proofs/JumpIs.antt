@@ -21,6 +21,7 @@ use Rattle.gaps.specs.declared.Order.{Order}
 use Rattle.gaps.specs.declared.Order.the-variants.{Third, Fourth}
 use Rattle.gaps.specs.Weights.{mirror, numbers}
 use Rattle.gaps.specs.Sides.{order-of, side, opposed, left-side, jump-of, allowing, quintic-square, leeway, leeways, past}
+use Rattle.gaps.proofs.Comparing.{sideE}
 
 -- the powers of a gap that is there, and of none
 there : (d h k : ℕ) → over d (suc h) k ≡ (λ i. num (power (pos (suc h)) (d - i) *ℤ pos (clear k d)))
@@ -46,11 +47,6 @@ powers d h k i = num (powerE h (d - i) :* k)
 
 abbrev naught : ℕ → Formula E
 naught i = num (# 0)
-
--- the code's side, where its slopes are s and s′
-abbrev sideE : Order → (h y s c y′ s′ c′ : E) → E
-sideE Third h y s c y′ s′ c′ = # 20 :* (# 4096 :* (y′ :- y)) :- (# 12 :* s :+ # 8 :* s′) :* h :- (# 3 :* c :- c′) :* h :* h
-sideE Fourth h y s c y′ s′ c′ = (# 16 :* s :+ # 14 :* s′) :* h :+ (# 3 :* c :- # 2 :* c′) :* h :* h :- # 30 :* (# 4096 :* (y′ :- y))
 
 abbrev opposedE : Order → E → E
 opposedE Third z = z

@@ -10,9 +10,18 @@ use Rattle.whole.proofs.Solve.{E, _:+_, _:-_, _:*_, #, v0 as h, v1 as y, v2 as 
 use Rattle.whole.proofs.Machine.{Src, res, safe, step, back}
 use Rattle.gaps.specs.declared.Order.the-variants.{Third, Fourth}
 use Rattle.gaps.specs.Sides.{side}
-use Rattle.gaps.proofs.Comparing.{side-args, side-tops, side-in, rise, sideE}
+use Rattle.gaps.proofs.Comparing.{side-args, side-tops, side-in, rise as rises, sideE}
 use Rattle.gaps.proofs.side.Statement.{statement}
 use Rattle.gaps.proofs.side.Tie as tie
+
+abbrev rise : E
+rise = rises y y′
+
+abbrev thirds : E
+thirds = sideE Third h y m k y′ m′ k′
+
+abbrev fourths : E
+fourths = sideE Fourth h y m k y′ m′ k′
 
 abbrev start : tie.After-struct-told6 → tie.Start
 start c = c .before .before .before .before .before .before
@@ -34,13 +43,13 @@ returns : tie.Need-returns
 unfolding side
 returns c =
     let d = start (c .before .before) in
-    back (side-in (d .pre)) (sideE Third) tt ∙ ap (λ o. side o (d .args .h) (d .args .here) (d .args .next)) (sym (c .enum-told .given .1))
+    back (side-in (d .pre)) thirds tt ∙ ap (λ o. side o (d .args .h) (d .args .here) (d .args .next)) (sym (c .enum-told .given .1))
 
 returns-2 : tie.Need-returns-2
 unfolding side
 returns-2 c =
     let d = start (c .before .before) in
-    back (side-in (d .pre)) (sideE Fourth) tt ∙ ap (λ o. side o (d .args .h) (d .args .here) (d .args .next)) (sym (c .enum-told2 .given .1))
+    back (side-in (d .pre)) fourths tt ∙ ap (λ o. side o (d .args .h) (d .args .here) (d .args .next)) (sym (c .enum-told2 .given .1))
 
 pub side-spec : {M : Type 1} → statement M
 side-spec =
@@ -59,7 +68,7 @@ side-spec =
     (third (# 3 :* k :- k′) tt)
     (third ((# 3 :* k :- k′) :* h) tt)
     (third ((# 3 :* k :- k′) :* h :* h) tt)
-    (third (sideE Third) tt)
+    (third thirds tt)
     (λ c. search needs)
     (fourth (# 16 :* m) tt)
     (fourth (# 14 :* m′) tt)
@@ -72,6 +81,6 @@ side-spec =
     (fourth ((# 3 :* k :- # 2 :* k′) :* h :* h) tt)
     (fourth ((# 16 :* m :+ # 14 :* m′) :* h :+ (# 3 :* k :- # 2 :* k′) :* h :* h) tt)
     (fourth (# 30 :* rise) tt)
-    (fourth (sideE Fourth) tt)
+    (fourth fourths tt)
     returns
     returns-2)
