@@ -1,0 +1,18 @@
+-- `passes::refuse` meets its contract. Assumes nothing.
+use mathlib.Core.Path.{ap}
+use lib.ListN.{replicate}
+use Rattle.rows.specs.declared.Pair.{Pair}
+use Rattle.passes.specs.declared.Solved.{Solved}
+use Rattle.passes.specs.Sheet.{most}
+use borrow.Author.Needs.{needs}
+use Rattle.passes.proofs.refuse.Statement.{statement}
+use Rattle.passes.proofs.refuse.Tie as tie
+
+no-pair-requires : tie.Need-no-pair-requires
+no-pair-requires c κs = search needs
+
+returns : tie.Need-returns
+returns c = simp (c .no-pair .ensures)
+
+pub refuse-spec : {M : Type 1} → statement M
+refuse-spec = tie.close (tie.spec no-pair-requires returns)
