@@ -4,8 +4,7 @@ use native.Mathlib.Nat.{le-refl}
 use native.Mathlib.Omega.{arith}
 use mathlib.Core.Path.{_≡_, refl, sym, ap, ap₂, _∙_}
 use mathlib.Core.Bool.{true}
-use mathlib.Core.List.{List}
-use lib.ListN.{getD, replicate, getD-replicate}
+use lib.ListN.{getD, getD-replicate}
 use Rattle.rows.specs.declared.State.{State}
 use Rattle.rows.specs.declared.Step.{Step}
 use Rattle.rows.specs.declared.Pair.{Pair}

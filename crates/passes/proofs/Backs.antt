@@ -1,11 +1,10 @@
 -- How the way back goes on, that it stays stopped, that it sees nothing of the states but those of its n knots, and
 -- that all its pairs are finite where it comes to its end. Assumes nothing.
 use Prim.Native.Nat.{ℕ, zero, suc, _-_, _≤_, _<_}
-use native.Mathlib.Nat.{eq-or-lt-of-le, le-of-lt, le-of-suc-le-suc}
+use native.Mathlib.Nat.{le-of-lt}
 use native.Mathlib.Omega.{arith}
 use native.Mathlib.Decide.{le-ind}
-use mathlib.Core.Path.{_≡_, refl, sym, ap, subst, _∙_}
-use mathlib.Core.Logic.{⊎-elim}
+use mathlib.Core.Path.{_≡_, refl, sym, ap, _∙_}
 use mathlib.Core.Bool.{Bool, true, false}
 use lib.Ieee.{ofBits}
 use Rattle.rows.specs.declared.State.{State}
@@ -13,13 +12,6 @@ use Rattle.rows.specs.declared.Pair.{Pair}
 use Rattle.rows.specs.Elimination.{zero-pair}
 use Rattle.rows.specs.Refusal.{both-finite}
 use Rattle.passes.specs.Back.{Back, back, stopped, pair-of, turned, settled, tried, retreat, backTo, pair-at}
-
-abbrev IsBack : Back → Type 0
-IsBack (back v) = Unit {0}
-IsBack (stopped k) = ⊥
-
-stopped-not-back : {k : ℕ} {v : Pair} → stopped k ≡ back v → ⊥
-stopped-not-back e = subst IsBack (sym e) tt
 
 pub zeros-finite : both-finite zero-pair ≡ true
 unfolding ofBits

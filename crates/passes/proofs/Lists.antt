@@ -1,7 +1,7 @@
 -- From what stands at each index to the list, and what a store changes of it. Assumes nothing.
-use Prim.Native.Nat.{ℕ, zero, suc, _+_, _-_, _≤_, _<_}
+use Prim.Native.Nat.{ℕ, zero, suc, _+_, _≤_, _<_}
 use native.Mathlib.Numerals.{add-one}
-use native.Mathlib.Nat.{ne-of-lt, ne-of-gt, eq-or-lt-of-le, le-of-lt}
+use native.Mathlib.Nat.{ne-of-lt, ne-of-gt, eq-or-lt-of-le}
 use native.Mathlib.Omega.{arith}
 use mathlib.Core.Path.{_≡_, refl, sym, ap, ap₂, subst, _∙_}
 use mathlib.Core.Logic.{⊎-elim}

@@ -1,12 +1,12 @@
 -- Signed 16-bit numbers, and the difference of two, fit 32 bits. Assumes nothing.
-use Prim.Native.Nat.{ℕ, zero, suc, _+_, _-_, _^_, _≤_, _<_}
+use Prim.Native.Nat.{ℕ, zero, suc, _-_, _<_}
 use native.Mathlib.Omega.{arith}
 use mathlib.Core.Bool.{Bool, true, false, cond}
 use lib.Dec.{ltb}
 use lib.IntN.{ℤ, pos, negsuc, subℕ, _-ℤ_}
 use lib.Signed.{mag}
 use mir.Syntax.{w16, w32}
-use mir.Val.{SFits, toZ}
+use mir.Val.{SFits}
 
 pub wider : {z : ℤ} → SFits w16 z → SFits w32 z
 wider h = let k = h .sfits in record { sfits = omega arith }

@@ -1,8 +1,7 @@
 -- What the test of `finite` says of a float. Assumes nothing.
 use mathlib.Core.Path.{_≡_, refl, sym, subst}
-use mathlib.Core.Bool.{Bool, true, false}
+use mathlib.Core.Bool.{true, false}
 use lib.Dec.{T}
-use lib.Ieee as Ieee
 use lib.Ieee.{Float, nan, inf, fin, binary64, ofBits, neg, lt, div}
 use Rattle.rows.specs.Floats.{f0, f1}
 use Rattle.rows.specs.Refusal.{is-finite}

@@ -4,7 +4,7 @@
 ghost use mathlib.Core.Path.{_≡_};
 ghost use mathlib.Core.Bool.{cond};
 ghost use Rattle.rows.specs.Equations.{zeros, one-over, powers, difference, gap, no-gap, row, second, both-given, curvature-given, replaced, equations};
-ghost use Rattle.rows.specs.Elimination.{_times_, _on_, _less_, _minus_, own, reduced, system, det, solution, columns, state, zero-pair, zero-state, backward};
+ghost use Rattle.rows.specs.Elimination.{_times_, _on_, _less_, _minus_, reduced, system, det, solution, columns, state, zero-pair, zero-state, backward};
 ghost use Rattle.rows.specs.Refusal.{is-finite, both-finite, all-finite, usable, passed, judged, solved, eliminated};
 
 // A slope with a curvature; a right side; a column.
@@ -68,17 +68,14 @@ pub enum Step {
     Stuck,
 }
 
-pub fn zero_block() -> Block
-    ensures { λ r. ⌜ r ≡ zeros ⌝ }
-{
-    Block {
-        e11: 0.0,
-        e12: 0.0,
-        e21: 0.0,
-        e22: 0.0,
-    }
-}
+const ZEROS: Block = Block {
+    e11: 0.0,
+    e12: 0.0,
+    e21: 0.0,
+    e22: 0.0,
+};
 
+// What stands before the last knot's pair is known, and behind a refusal.
 pub fn no_pair() -> Pair
     ensures { λ r. ⌜ r ≡ zero-pair ⌝ }
 {
@@ -89,18 +86,18 @@ pub fn no_pair() -> Pair
 pub fn start() -> State
     ensures { λ r. ⌜ r ≡ zero-state ⌝ }
 {
-    let h = zero_block();
-    let p = no_pair();
+    let h = ZEROS;
+    let p = Pair { s: 0.0, c: 0.0 };
     State { h, p }
 }
 
-pub fn inverse(h: u16) -> f64
+fn inverse(h: u16) -> f64
     ensures { λ r. ⌜ r ≡ one-over h ⌝ }
 {
     1.0 / (h as f64)
 }
 
-pub fn powers_of(g: f64) -> Powers
+fn powers_of(g: f64) -> Powers
     ensures { λ r. ⌜ r ≡ powers g ⌝ }
 {
     let g2 = g * g;
@@ -109,7 +106,7 @@ pub fn powers_of(g: f64) -> Powers
     Powers { g, g2, g3, g4 }
 }
 
-pub fn rise_over(y: i16, next: i16) -> f64
+fn rise_over(y: i16, next: i16) -> f64
     ensures { λ r. ⌜ r ≡ difference y next ⌝ }
 {
     ((next as i32) - (y as i32)) as f64
@@ -132,7 +129,7 @@ pub fn empty_gap() -> Gap
 }
 
 // A, L, R and k for the gaps p on the left and g on the right.
-pub fn row_of(p: Powers, e: f64, g: Powers, d: f64) -> Row
+fn row_of(p: Powers, e: f64, g: Powers, d: f64) -> Row
     ensures { λ x. ⌜ x ≡ row p e g d ⌝ }
 {
     let m = 12.0 * (g.g2 - p.g2);
@@ -161,7 +158,7 @@ pub fn row_of(p: Powers, e: f64, g: Powers, d: f64) -> Row
     Row { a, l, r, k }
 }
 
-pub fn with_second(m: Block, e21: f64, e22: f64) -> Block
+fn with_second(m: Block, e21: f64, e22: f64) -> Block
     ensures { λ r. ⌜ r ≡ second m e21 e22 ⌝ }
 {
     Block {
@@ -173,7 +170,7 @@ pub fn with_second(m: Block, e21: f64, e22: f64) -> Block
 }
 
 // Both rows replaced: s = given and c = given.
-pub fn row_of_both(slope: f64, curvature: f64) -> Row
+fn row_of_both(slope: f64, curvature: f64) -> Row
     ensures { λ x. ⌜ x ≡ both-given slope curvature ⌝ }
 {
     let a = Block {
@@ -182,8 +179,8 @@ pub fn row_of_both(slope: f64, curvature: f64) -> Row
         e21: 0.0,
         e22: 1.0,
     };
-    let l = zero_block();
-    let r = zero_block();
+    let l = ZEROS;
+    let r = ZEROS;
     let k = Pair {
         s: slope,
         c: curvature,
@@ -192,7 +189,7 @@ pub fn row_of_both(slope: f64, curvature: f64) -> Row
 }
 
 // The third-derivative row replaced: c = given.
-pub fn row_of_curvature(row: Row, curvature: f64) -> Row
+fn row_of_curvature(row: Row, curvature: f64) -> Row
     ensures { λ x. ⌜ x ≡ curvature-given row curvature ⌝ }
 {
     let a = with_second(row.a, 0.0, 1.0);
@@ -205,7 +202,7 @@ pub fn row_of_curvature(row: Row, curvature: f64) -> Row
     Row { a, l, r, k }
 }
 
-pub fn ended(row: Row, end: End) -> Row
+fn ended(row: Row, end: End) -> Row
     ensures { λ x. ⌜ x ≡ replaced row end ⌝ }
 {
     match end {
@@ -222,7 +219,7 @@ pub fn equations_of(p: Gap, g: Gap, end: End) -> Row
     ended(row_of(p.powers, p.rise, g.powers, g.rise), end)
 }
 
-pub fn multiply(m: Block, n: Block) -> Block
+fn multiply(m: Block, n: Block) -> Block
     ensures { λ r. ⌜ r ≡ m times n ⌝ }
 {
     Block {
@@ -233,7 +230,7 @@ pub fn multiply(m: Block, n: Block) -> Block
     }
 }
 
-pub fn apply(m: Block, v: Pair) -> Pair
+fn apply(m: Block, v: Pair) -> Pair
     ensures { λ r. ⌜ r ≡ m on v ⌝ }
 {
     Pair {
@@ -242,7 +239,7 @@ pub fn apply(m: Block, v: Pair) -> Pair
     }
 }
 
-pub fn subtract(m: Block, n: Block) -> Block
+fn subtract(m: Block, n: Block) -> Block
     ensures { λ r. ⌜ r ≡ m less n ⌝ }
 {
     Block {
@@ -253,7 +250,7 @@ pub fn subtract(m: Block, n: Block) -> Block
     }
 }
 
-pub fn subtract_pair(v: Pair, w: Pair) -> Pair
+fn subtract_pair(v: Pair, w: Pair) -> Pair
     ensures { λ r. ⌜ r ≡ v minus w ⌝ }
 {
     Pair {
@@ -263,7 +260,7 @@ pub fn subtract_pair(v: Pair, w: Pair) -> Pair
 }
 
 // S = A − L·H, t = k − L·P.
-pub fn reduce(row: Row, before: State) -> System
+fn reduce(row: Row, before: State) -> System
     ensures { λ r. ⌜ r ≡ reduced row before ⌝ }
 {
     let s = subtract(row.a, multiply(row.l, before.h));
@@ -272,7 +269,7 @@ pub fn reduce(row: Row, before: State) -> System
 }
 
 // At the first knot S = A, t = k.
-pub fn system_of(row: Row, before: State, first: bool) -> System
+fn system_of(row: Row, before: State, first: bool) -> System
     ensures { λ r. ⌜ r ≡ system row before first ⌝ }
 {
     if first {
@@ -284,14 +281,14 @@ pub fn system_of(row: Row, before: State, first: bool) -> System
     }
 }
 
-pub fn determinant(s: Block) -> f64
+fn determinant(s: Block) -> f64
     ensures { λ r. ⌜ r ≡ det s ⌝ }
 {
     s.e11 * s.e22 - s.e12 * s.e21
 }
 
 // Solves S against the column (r1, r2); d is the determinant.
-pub fn solve(s: Block, d: f64, r1: f64, r2: f64) -> Pair
+fn solve(s: Block, d: f64, r1: f64, r2: f64) -> Pair
     ensures { λ r. ⌜ r ≡ solution s d r1 r2 ⌝ }
 {
     Pair {
@@ -301,11 +298,11 @@ pub fn solve(s: Block, d: f64, r1: f64, r2: f64) -> Pair
 }
 
 // H solves the columns of R, but not at the last knot.
-pub fn solve_columns(s: Block, d: f64, r: Block, last: bool) -> Block
+fn solve_columns(s: Block, d: f64, r: Block, last: bool) -> Block
     ensures { λ h. ⌜ h ≡ cond last zeros (columns s d r) ⌝ }
 {
     if last {
-        zero_block()
+        ZEROS
     } else {
         let u = solve(s, d, r.e11, r.e21);
         let v = solve(s, d, r.e12, r.e22);
@@ -318,7 +315,7 @@ pub fn solve_columns(s: Block, d: f64, r: Block, last: bool) -> Block
     }
 }
 
-pub fn state_of(y: System, d: f64, r: Block, last: bool) -> State
+fn state_of(y: System, d: f64, r: Block, last: bool) -> State
     ensures { λ x. ⌜ x ≡ state y d r last ⌝ }
 {
     let h = solve_columns(y.s, d, r, last);
@@ -333,7 +330,7 @@ pub fn back(x: State, next: Pair) -> Pair
     subtract_pair(x.p, apply(x.h, next))
 }
 
-pub fn finite(x: f64) -> bool
+fn finite(x: f64) -> bool
     ensures { λ r. ⌜ r ≡ is-finite x ⌝ }
 {
     let top = 1.0 / 0.0;
@@ -346,7 +343,7 @@ pub fn finite_pair(v: Pair) -> bool
     if finite(v.s) { finite(v.c) } else { false }
 }
 
-pub fn finite_block(m: Block) -> bool
+fn finite_block(m: Block) -> bool
     ensures { λ r. ⌜ r ≡ all-finite m ⌝ }
 {
     if finite(m.e11) {
@@ -360,13 +357,13 @@ pub fn finite_block(m: Block) -> bool
     }
 }
 
-pub fn can_divide(d: f64) -> bool
+fn can_divide(d: f64) -> bool
     ensures { λ r. ⌜ r ≡ usable d ⌝ }
 {
     if finite(d) { d != 0.0 } else { false }
 }
 
-pub fn sound(d: f64, x: State) -> bool
+fn sound(d: f64, x: State) -> bool
     ensures { λ r. ⌜ r ≡ passed d x ⌝ }
 {
     if can_divide(d) {
@@ -380,7 +377,7 @@ pub fn sound(d: f64, x: State) -> bool
     }
 }
 
-pub fn judge(d: f64, x: State) -> Step
+fn judge(d: f64, x: State) -> Step
     ensures { λ r. ⌜ r ≡ judged d x ⌝ }
 {
     if sound(d, x) {
@@ -391,7 +388,7 @@ pub fn judge(d: f64, x: State) -> Step
 }
 
 // Solves a knot; the determinant that its numbers are divided by is the one that is tested.
-pub fn settle(y: System, r: Block, last: bool) -> Step
+fn settle(y: System, r: Block, last: bool) -> Step
     ensures { λ x. ⌜ x ≡ solved y r last ⌝ }
 {
     let d = determinant(y.s);

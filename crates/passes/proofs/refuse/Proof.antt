@@ -1,9 +1,4 @@
 -- `passes::refuse` meets its contract. Assumes nothing.
-use mathlib.Core.Path.{ap}
-use lib.ListN.{replicate}
-use Rattle.rows.specs.declared.Pair.{Pair}
-use Rattle.passes.specs.declared.Solved.{Solved}
-use Rattle.passes.specs.Sheet.{most}
 use borrow.Author.Needs.{needs}
 use Rattle.passes.proofs.refuse.Statement.{statement}
 use Rattle.passes.proofs.refuse.Tie as tie

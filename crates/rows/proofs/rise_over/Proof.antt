@@ -1,6 +1,5 @@
 -- `rows::rise_over` meets its contract. Both ordinates are 16-bit numbers, so they and their difference fit 32 bits. Assumes nothing.
 use borrow.Author.Needs.{needs}
-use mathlib.Core.Path.{_≡_, sym, subst, ap}
 use Rattle.rows.proofs.Difference.{wider, apart}
 use mir.Syntax.{w16, w32}
 use mir.ValLaws.{toZ-ofZ}

@@ -3,9 +3,6 @@ use borrow.Author.Needs.{needs}
 use Rattle.rows.proofs.solve_columns.Statement.{statement}
 use Rattle.rows.proofs.solve_columns.Tie as tie
 
-zero-block-requires : tie.Need-zero-block-requires
-zero-block-requires c κs = search needs
-
 solve-requires : tie.Need-solve-requires
 solve-requires c κs = search needs
 
@@ -13,11 +10,10 @@ solve-requires-2 : tie.Need-solve-requires-2
 solve-requires-2 c κs = search needs
 
 returns : tie.Need-returns
-returns c = search needs
+returns c = simp (c .if1 .taken)
 
 returns-2 : tie.Need-returns-2
 returns-2 c = simp (c .solve2 .ensures, c .before .solve .ensures, c .before .before .if1 .left)
 
 pub solve-columns-spec : {M : Type 1} → statement M
-solve-columns-spec =
-    tie.close (tie.spec zero-block-requires solve-requires solve-requires-2 returns returns-2)
+solve-columns-spec = tie.close (tie.spec solve-requires solve-requires-2 returns returns-2)
