@@ -1,5 +1,6 @@
 //! Document 01's own cases, run on the reference: Table 3, P1 to P12 and the other cases at the edges.
 
+use crate::random::Random;
 use crate::reference::*;
 
 const TABLE_3: &str = "\
@@ -106,17 +107,26 @@ fn other_edges() {
     assert_eq!(fit_number(&[0, 1, 2], &line, FREE, given(256.0f64.next_up())), (7, 2));
 }
 
-/// "These are a third of the third derivative and a twelfth of the fourth": Table 3's card has no jump in either, and the
-/// derivatives of the exact curve say the same at each inner knot.
+/// "These are a third of the third derivative and a twelfth of the fourth": N/(8192·h^5) is derived, in card units 4096 times.
 #[test]
-fn table_3_does_not_jump_by_the_derivatives() {
-    let card = check(&table_3_card()).unwrap();
-    for i in 1..4 {
-        let left = numerator(card.knots[i - 1], card.knots[i]).derivative().derivative().derivative();
-        let right = numerator(card.knots[i], card.knots[i + 1]).derivative().derivative().derivative();
-        let h = card.knots[i].x - card.knots[i - 1].x;
-        assert_eq!(left.at(h), right.at(0));
-        assert_eq!(left.derivative().at(h), right.derivative().at(0));
+fn the_jump_test_reads_the_derivatives_of_the_exact_curve() {
+    let mut random = Random::new(1);
+    let limit = i64::from(CARD_NUMBER_LIMIT);
+    for _ in 0..1000 {
+        let mut knot = |x: i128| Knot {
+            x,
+            y: random.within(-20_000, 20_000).into(),
+            m: random.within(-limit, limit).into(),
+            c: random.within(-limit, limit).into(),
+        };
+        let (left, right) = (knot(0), knot(7));
+        let h = right.x;
+        let third = numerator(left, right).derivative().derivative().derivative();
+        let fourth = third.derivative();
+        for (side, tau) in [(right_side(left, right), 0), (left_side(left, right), h)] {
+            assert_eq!(third.at(tau), 6 * h * h * side.third);
+            assert_eq!(fourth.at(tau), 24 * h * side.fourth);
+        }
     }
 }
 
