@@ -159,15 +159,7 @@ pub fn fit_ends(minutes: &[u16], ordinates: &[i16], slopes: &mut [i32], curvatur
     }
 }
 
-pub fn write(
-    minutes: &[u16],
-    ordinates: &[i16],
-    slopes: &[i32],
-    curvatures: &[i32],
-    left: u16,
-    right: u16,
-    buffer: &mut [u8],
-) -> Written {
+pub fn write(minutes: &[u16], ordinates: &[i16], slopes: &[i32], curvatures: &[i32], left: u16, right: u16, buffer: &mut [u8]) -> Written {
     unsafe {
         kaihveto_write(
             minutes.as_ptr(),

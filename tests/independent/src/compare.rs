@@ -21,7 +21,14 @@ pub struct Tally {
 }
 
 impl Tally {
-    fn count<A: PartialEq + std::fmt::Debug>(&mut self, number: u32, ours: A, wanted: A, lists_alike: bool, input: impl FnOnce() -> String) {
+    fn count<A: PartialEq + std::fmt::Debug>(
+        &mut self,
+        number: u32,
+        ours: A,
+        wanted: A,
+        lists_alike: bool,
+        input: impl FnOnce() -> String,
+    ) {
         self.comparisons += 1;
         self.numbers[number as usize] += 1;
         if ours == wanted && lists_alike {
@@ -131,12 +138,9 @@ pub fn write(tally: &mut Tally, minutes: &[u16], ordinates: &[i16], slopes: &[i3
 
 fn checked(answer: &Result<reference::Card, Refusal>) -> boundary::Checked {
     match answer {
-        Ok(card) => boundary::Checked {
-            knots: card.minutes.len() as u32,
-            left: card.left.into(),
-            right: card.right.into(),
-            ..Default::default()
-        },
+        Ok(card) => {
+            boundary::Checked { knots: card.minutes.len() as u32, left: card.left.into(), right: card.right.into(), ..Default::default() }
+        }
         Err(Refusal { number, place }) => boundary::Checked { number: *number, place: *place, ..Default::default() },
     }
 }
@@ -159,9 +163,7 @@ pub fn read(tally: &mut Tally, card: &[u8], lengths: [usize; 4]) {
 
 fn compare_reading(tally: &mut Tally, card: &[u8], minute: u16, wanted: Result<reference::Reading, Refusal>) {
     let answer = match wanted {
-        Ok(reading) => {
-            boundary::Reading { value: reading.value, slope: reading.slope, curvature: reading.curvature, ..Default::default() }
-        }
+        Ok(reading) => boundary::Reading { value: reading.value, slope: reading.slope, curvature: reading.curvature, ..Default::default() },
         Err(Refusal { number, place }) => boundary::Reading { number, place, ..Default::default() },
     };
     tally.count(answer.number, boundary::reading(card, minute), answer, true, || format!("reading at {minute} off {}", hex(card)));

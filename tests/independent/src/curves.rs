@@ -164,7 +164,8 @@ pub fn end(random: &mut Random, code: u16, specials: &[f64]) -> End {
 pub fn fitted(random: &mut Random, n: usize, left: u16, right: u16) -> Numbers {
     loop {
         let sheet = sheet(random, n);
-        let mut given = |code| End { code, slope: random.within(-3000, 3000) as f64 / 700.0, curvature: random.within(-500, 500) as f64 / 900.0 };
+        let mut given =
+            |code| End { code, slope: random.within(-3000, 3000) as f64 / 700.0, curvature: random.within(-500, 500) as f64 / 900.0 };
         let (left, right) = (given(left), given(right));
         let (mut slopes, mut curvatures) = (vec![0; n], vec![0; n]);
         if reference::fit_ends(&sheet.minutes, &sheet.ordinates, &mut slopes, &mut curvatures, left, right).is_ok() {
@@ -200,7 +201,8 @@ pub fn extreme(random: &mut Random, n: usize) -> Numbers {
     if random.once_in(2) {
         sheet.ordinates.iter_mut().for_each(|y| *y = random.pick(&[ORDINATE_LIMIT, -ORDINATE_LIMIT]));
     }
-    let mut number = || if random.once_in(6) { random.within(-i64::from(limit), limit.into()) as i32 } else { random.pick(&[limit, -limit]) };
+    let mut number =
+        || if random.once_in(6) { random.within(-i64::from(limit), limit.into()) as i32 } else { random.pick(&[limit, -limit]) };
     let mut slopes: Vec<i32> = (0..n).map(|_| number()).collect();
     let mut curvatures: Vec<i32> = (0..n).map(|_| number()).collect();
     let past = random.pick(&[limit + 1, -limit - 1, i32::MAX, i32::MIN]);

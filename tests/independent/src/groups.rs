@@ -217,11 +217,11 @@ fn readings(tally: &mut Tally, random: &mut Random) {
     }
     for gap in 1..=WIDEST_GAP {
         for _ in 0..6 {
-            let mut sheet = curves::sheet(random, 3);
             let other = random.within(1, WIDEST_GAP.into()) as u16;
-            sheet.minutes = vec![5, 5 + gap, 5 + gap + other];
-            let line: Vec<i16> = sheet.minutes.iter().map(|&x| (i32::from(x) * 3 - 7) as i16).collect();
-            let numbers = Numbers { sheet: Sheet { ordinates: line, ..sheet }, slopes: vec![12_288; 3], curvatures: vec![0; 3], left: 0, right: 0 };
+            let minutes = vec![5, 5 + gap, 5 + gap + other];
+            let ordinates = minutes.iter().map(|&x| 3 * x as i16 - 7).collect();
+            let sheet = Sheet { minutes, ordinates };
+            let numbers = Numbers { sheet, slopes: vec![3 * 4096; 3], curvatures: vec![0; 3], left: 0, right: 0 };
             whole_card(tally, random, &numbers);
             for place in 0..3 {
                 for (slope, step) in [(true, 1), (true, -1), (false, 1), (false, -1)] {
