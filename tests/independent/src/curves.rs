@@ -295,3 +295,56 @@ pub fn about_the_allowance(numbers: &Numbers, place: usize, slope: bool, step: i
         within = past;
     }
 }
+
+/// A sheet with two ends that the reference fits.
+pub fn fitted_ends(random: &mut Random, n: usize, left: u16, right: u16) -> (Sheet, [End; 2]) {
+    loop {
+        let sheet = sheet(random, n);
+        let ends = [left, right].map(|code| end(random, code, &[0.0]));
+        let (mut slopes, mut curvatures) = (vec![0; n], vec![0; n]);
+        if reference::fit_ends(&sheet.minutes, &sheet.ordinates, &mut slopes, &mut curvatures, ends[0], ends[1]).is_ok() {
+            return (sheet, ends);
+        }
+    }
+}
+
+/// Which given number of which end is turned, and which number of the fit is looked at.
+#[derive(Clone, Copy)]
+pub struct Turn {
+    pub right: bool,
+    pub slope: bool,
+    pub place: usize,
+    pub row: usize,
+}
+
+/// The ends with the one given number made this.
+pub fn turned(mut ends: [End; 2], turn: Turn, given: f64) -> [End; 2] {
+    let end = &mut ends[usize::from(turn.right)];
+    *(if turn.slope { &mut end.slope } else { &mut end.curvature }) = given;
+    ends
+}
+
+/// The last of the given numbers at which the fit's number still rounds as it does now, its neighbour rounding otherwise: there
+/// 4096·u stands at a half, so that a single operation rounded in another way shows in the card.
+pub fn about_a_half(sheet: &Sheet, ends: [End; 2], turn: Turn) -> Option<f64> {
+    let rounded = |given: f64| {
+        let [left, right] = turned(ends, turn, given);
+        let pairs = reference::eliminate(&sheet.minutes, &sheet.ordinates, left, right).ok()?;
+        Some(reference::card_units(pairs[turn.place][turn.row]))
+    };
+    let end = ends[usize::from(turn.right)];
+    let mut same = if turn.slope { end.slope } else { end.curvature };
+    let now = rounded(same)?;
+    let mut other = [1.0 / 4096.0, 1.0 / 64.0, 1.0].iter().map(|step| same + step).find(|&given| rounded(given) != Some(now))?;
+    loop {
+        let middle = same + (other - same) / 2.0;
+        if middle <= same || middle >= other {
+            return Some(same);
+        }
+        if rounded(middle) == Some(now) {
+            same = middle;
+        } else {
+            other = middle;
+        }
+    }
+}

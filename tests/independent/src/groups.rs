@@ -1,7 +1,7 @@
 //! The inputs to compare on, in groups; the same in every run.
 
 use crate::compare::{self, Tally};
-use crate::curves::{self, Numbers, Sheet};
+use crate::curves::{self, Numbers, Sheet, Turn};
 use crate::random::Random;
 use crate::reference::{card_size, End, FREE, LONGEST_LOG, MOST_KNOTS, WIDEST_GAP};
 use std::time::Instant;
@@ -80,6 +80,28 @@ fn given(tally: &mut Tally, random: &mut Random) {
                     }
                 }
             }
+        }
+    }
+}
+
+/// Fits of which one number stands at a half before it is rounded: given numbers on both sides, near and a little further off.
+fn halves(tally: &mut Tally, random: &mut Random) {
+    let given_codes = [[1, 0], [2, 0], [0, 1], [0, 2], [1, 1], [1, 2], [2, 1], [2, 2]];
+    for count in 0..8_000 {
+        let n = if count % 16 == 0 { random.within(3, 64) } else { random.within(3, 8) } as usize;
+        let [left, right] = random.pick(&given_codes);
+        let (sheet, ends) = curves::fitted_ends(random, n, left, right);
+        let on_right = left == 0 || (right != 0 && random.once_in(2));
+        let slope = ends[usize::from(on_right)].code == 1 && random.once_in(2);
+        let from_the_end = random.below(n.min(5));
+        let place = if on_right { n - 1 - from_the_end } else { from_the_end };
+        let turn = Turn { right: on_right, slope, place, row: random.below(2) };
+        let Some(half) = curves::about_a_half(&sheet, ends, turn) else { continue };
+        for steps in [-1000, -60, -8, -3, -2, -1, 0, 1, 2, 3, 4, 9, 60, 1000] {
+            // Neighbouring floats have neighbouring bits, but for those about 0.
+            let given = f64::from_bits(half.to_bits().wrapping_add_signed(steps));
+            let [left, right] = curves::turned(ends, turn, given);
+            compare::fit_ends(tally, &sheet.minutes, &sheet.ordinates, [n, n], left, right);
         }
     }
 }
@@ -315,10 +337,11 @@ type Group = fn(&mut Tally, &mut Random);
 
 /// Runs every group, prints the numbers, and says whether nothing differed.
 pub fn all() -> bool {
-    let groups: [(&str, Group); 9] = [
+    let groups: [(&str, Group); 10] = [
         ("logs", logs),
         ("fits", fits),
         ("given numbers", given),
+        ("fits at a half", halves),
         ("lists of unequal lengths", lengths),
         ("writers", writers),
         ("bytes of cards", card_bytes),
