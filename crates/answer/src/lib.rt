@@ -1,5 +1,19 @@
 // What a check answers: that it accepts, or the number and place of document 01's table of refusals.
+ghost use mathlib.Core.Path.{_≡_};
+ghost use Rattle.answer.specs.Answer.{refuse};
+ghost use Rattle.answer.specs.Judge.{verdict-of};
+
 pub enum Judged {
     Accepted,
     Refused(u32, u32),
+}
+
+// "given exactly when".
+pub fn refuse(number: u32, place: u32, test: bool) -> Judged
+    ensures { λ r. ⌜ verdict-of r ≡ refuse number place test ⌝ }
+{
+    if test {
+        return Judged::Refused(number, place);
+    }
+    Judged::Accepted
 }

@@ -7,28 +7,13 @@ use native.Mathlib.Nat.{mul-one, mul-comm, pow-zero, pow-suc}
 use lib.IntN.{ℤ, pos, _*ℤ_}
 use Rattle.whole.proofs.Solve.{_:*_, #, ring}
 use Rattle.whole.specs.Whole.{_·_}
-use Rattle.curve.specs.Formula.{Formula, num, _⊖_, _⊛_, power, worth, ∂, ∂^, amount}
+use Rattle.curve.specs.Formula.{num, power, worth, ∂, ∂^, amount}
 use Rattle.curve.specs.Curve.{Order, third, fourth, degree, N, rightward, leftward}
 use Rattle.curve.specs.Card.{Knot, gap}
 use Rattle.curve.specs.Jump.{over, inverse, clear, rise}
 use Rattle.curve.specs.Reading.{between}
-use Rattle.curve.proofs.Written.{powerE, worthE, amountE}
-
--- a third of the third, a twelfth of the fourth
-unfoldable pub share : Order → ℕ
-share third = 3
-share fourth = 12
-
--- N and a jump's side over any numbers, as ℤ's and as the solver's
-module _ {A : Type 0} (h y y′ m m′ M M′ : A) where
-  abbrev pub curve : Formula A
-  curve = N (num h) (num y) (num y′) (num m) (num m′) (num M) (num M′)
-
-  abbrev rights : Order → (ℕ → A) → Formula A
-  rights o g = rightward o (λ i. num (g i)) (4096 ⊛ (num y′ ⊖ num y)) (num m) (num m′) (num M) (num M′)
-
-  abbrev lefts : Order → (ℕ → A) → Formula A
-  lefts o g = leftward o (λ i. num (g i)) (4096 ⊛ (num y′ ⊖ num y)) (num m′) (num m) (num M′) (num M)
+use Rattle.curve.specs.Demand.{share}
+use Rattle.curve.proofs.Written.{powerE, worthE, amountE, curve, rising, rights, lefts}
 
 module _ (h y y′ m m′ M M′ : ℤ) where
   abbrev all : List ℤ
@@ -36,32 +21,32 @@ module _ (h y y′ m m′ M M′ : ℤ) where
 
   right′ : (o : Order) →
       4096 · worth (∂^ (degree o) (curve h y y′ m m′ M M′)) (pos 0) *ℤ power h (degree o)
-      ≡ share o · amount (rights h y y′ m m′ M M′ o (λ i. power h (degree o - i))) *ℤ (8192 · power h 5)
+      ≡ share o · amount (rights (λ i. power h (degree o - i)) o (rising y y′) m m′ M M′) *ℤ (8192 · power h 5)
   unfolding worth ∂ ∂^ N power rightward share degree amount
   right′ third = ring all
       (λ h y y′ m m′ M M′. (
         # 4096 :* worthE (∂^ 3 (curve h y y′ m m′ M M′)) (# 0) :* powerE h 3,
-        # 3 :* amountE (rights h y y′ m m′ M M′ third (λ i. powerE h (3 - i))) :* (# 8192 :* powerE h 5),
+        # 3 :* amountE (rights (λ i. powerE h (3 - i)) third (rising y y′) m m′ M M′) :* (# 8192 :* powerE h 5),
       )) tt
   right′ fourth = ring all
       (λ h y y′ m m′ M M′. (
         # 4096 :* worthE (∂^ 4 (curve h y y′ m m′ M M′)) (# 0) :* powerE h 4,
-        # 12 :* amountE (rights h y y′ m m′ M M′ fourth (λ i. powerE h (4 - i))) :* (# 8192 :* powerE h 5),
+        # 12 :* amountE (rights (λ i. powerE h (4 - i)) fourth (rising y y′) m m′ M M′) :* (# 8192 :* powerE h 5),
       )) tt
 
   left′ : (o : Order) →
       4096 · worth (∂^ (degree o) (curve h y y′ m m′ M M′)) h *ℤ power h (degree o)
-      ≡ share o · amount (lefts h y y′ m m′ M M′ o (λ i. power h (degree o - i))) *ℤ (8192 · power h 5)
+      ≡ share o · amount (lefts (λ i. power h (degree o - i)) o (rising y y′) m′ m M′ M) *ℤ (8192 · power h 5)
   unfolding worth ∂ ∂^ N power leftward share degree amount
   left′ third = ring all
       (λ h y y′ m m′ M M′. (
         # 4096 :* worthE (∂^ 3 (curve h y y′ m m′ M M′)) h :* powerE h 3,
-        # 3 :* amountE (lefts h y y′ m m′ M M′ third (λ i. powerE h (3 - i))) :* (# 8192 :* powerE h 5),
+        # 3 :* amountE (lefts (λ i. powerE h (3 - i)) third (rising y y′) m′ m M′ M) :* (# 8192 :* powerE h 5),
       )) tt
   left′ fourth = ring all
       (λ h y y′ m m′ M M′. (
         # 4096 :* worthE (∂^ 4 (curve h y y′ m m′ M M′)) h :* powerE h 4,
-        # 12 :* amountE (lefts h y y′ m m′ M M′ fourth (λ i. powerE h (4 - i))) :* (# 8192 :* powerE h 5),
+        # 12 :* amountE (lefts (λ i. powerE h (4 - i)) fourth (rising y y′) m′ m M′ M) :* (# 8192 :* powerE h 5),
       )) tt
 
 -- a natural number's powers are the whole number's

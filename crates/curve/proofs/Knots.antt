@@ -11,9 +11,10 @@ use Rattle.whole.specs.Whole.{_·_, nearest}
 use Rattle.curve.specs.Formula.{power, worth, ∂, ∂^}
 use Rattle.curve.specs.Curve.{N}
 use Rattle.curve.specs.Card.{Knot, gap}
-use Rattle.curve.specs.Reading.{between, denominator, Reading, reads}
-use Rattle.curve.proofs.Written.{powerE, worthE}
-use Rattle.curve.proofs.Derivatives.{curve, scaled}
+use Rattle.curve.specs.Reading.{between, denominator, reads}
+use Rattle.curve.specs.Demand.{numbers}
+use Rattle.curve.proofs.Written.{powerE, worthE, curve}
+use Rattle.curve.proofs.Derivatives.{scaled}
 use Rattle.whole.proofs.Rounding.{nearest-exact}
 
 -- at t the curve of the gap from a to b stands as at the knot k
@@ -45,9 +46,6 @@ module _ (a b : Knot) where
       }
 
 -- so that a reading at a knot, from either gap, is the knot's own numbers
-pub numbers : Knot → Reading
-numbers k = record { value = k .y; slope = k .m; curvature = k .M }
-
 module _ (a b : Knot) (wide : 0 < gap a b) where
   below : 0 < 8192 * gap a b ^ 5
   below = omega (arith, one-le-pow 5 (gap a b) wide)

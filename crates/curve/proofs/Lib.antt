@@ -1,6 +1,11 @@
 pub mod Written
+pub mod Calculus
 pub mod Derivatives
 pub mod Knots
+pub mod Accepted
+pub mod Gap
+pub mod Sides
+pub mod Demand3
 pub mod NearExact
 pub mod NeverTen
 pub mod Cases

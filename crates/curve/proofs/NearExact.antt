@@ -1,8 +1,9 @@
--- A card whose numbers are within half a unit of an exact solution is never refused with 10: a jump is linear in the card's numbers, the exact ones
+-- Why a card within half a unit of an exact solution is not refused with 10: a jump is linear in the card's numbers, the exact ones
 -- have none, and so it is the jump of what the numbers are off, which the allowance covers.
+-- Assumes nothing.
 use mathlib.Core.Path.{_≡_, sym, ap, _∙_, subst}
 use mathlib.Core.List.{List, [], _∷_}
-use Prim.Native.Nat.{ℕ, zero, suc, _+_, _-_, _*_, _≤_, _<_}
+use Prim.Native.Nat.{ℕ, _+_, _-_, _*_, _≤_, _<_}
 use native.Mathlib.Nat.{mul-assoc, mul-comm, add-mul, le-of-mul-le-mul-right}
 use native.Mathlib.Omega.{arith}
 use lib.IntN.{ℤ, pos, natAbs, _+ℤ_, _*ℤ_, _-ℤ_, +ℤ-idr, +ℤ-invr, *ℤ-zero}
@@ -10,25 +11,9 @@ use Rattle.whole.proofs.Solve.{E, var, _:+_, _:-_, _:*_, #, ring, at as the, va
 use Rattle.whole.proofs.Order.{abs-mul}
 use Rattle.whole.proofs.Linear.{bounded, bound}
 use Rattle.whole.specs.Whole.{_·_}
-use Rattle.curve.specs.Formula.{Formula, num, nat, _⊗_, _⊖_, _⊛_, worth, amount}
+use Rattle.curve.specs.Formula.{num, nat, _⊖_, worth, amount}
 use Rattle.curve.specs.Curve.{Order, third, fourth, rightward, leftward, equation, equals}
-use Rattle.curve.proofs.Written.{amountE}
-
--- the jump and the equation over any numbers, as ℤ's and as the solver's
-module _ {A : Type 0} (g p : ℕ → A) where
-  abbrev pub jumping : Order → (D E : Formula A) → (m⁻ M⁻ m M m⁺ M⁺ : A) → Formula A
-  jumping o D E m⁻ M⁻ m M m⁺ M⁺ =
-      rightward o (λ i. num (g i)) D (num m) (num m⁺) (num M) (num M⁺)
-      ⊖ leftward o (λ i. num (p i)) E (num m) (num m⁻) (num M) (num M⁻)
-
-  abbrev pub equating : Order → (s⁻ c⁻ s c s⁺ c⁺ : A) → Formula A
-  equating o s⁻ c⁻ s c s⁺ c⁺ = equation o (λ i. num (g i)) (λ i. num (p i)) (num s⁻) (num c⁻) (num s) (num c) (num s⁺) (num c⁺)
-
-  abbrev pub equalling : Order → Formula A → (y⁻ y y⁺ : A) → Formula A
-  equalling o q y⁻ y y⁺ = equals o (λ i. num (g i)) (λ i. num (p i)) (q ⊗ (num y⁺ ⊖ num y)) (q ⊗ (num y ⊖ num y⁻))
-
-abbrev pub rising : {A : Type 0} → A → A → Formula A
-rising y y⁺ = 4096 ⊛ (num y⁺ ⊖ num y)
+use Rattle.curve.proofs.Written.{amountE, powers, rising, jumping, equating, equalling}
 
 -- twice what a number is off, times q
 abbrev pub off : ℕ → ℤ → ℤ → ℤ
@@ -37,14 +22,6 @@ off q s m = 2 · (4096 · s -ℤ q · m)
 abbrev offE : E → E → E → E
 offE q s m = # 2 :* (# 4096 :* s :- q :* m)
 
--- g by its powers
-abbrev pick : {A : Type 0} → A → A → A → A → ℕ → A
-pick g₁ g₂ g₃ g₄ zero = g₁
-pick g₁ g₂ g₃ g₄ (suc zero) = g₁
-pick g₁ g₂ g₃ g₄ (suc (suc zero)) = g₂
-pick g₁ g₂ g₃ g₄ (suc (suc (suc zero))) = g₃
-pick g₁ g₂ g₃ g₄ (suc (suc (suc (suc n)))) = g₄
-
 vanish : (a l r : ℤ) (k : ℕ) → l ≡ r → a +ℤ k · (r -ℤ l) ≡ a
 vanish a l r k e = ap (λ z. a +ℤ k · (r -ℤ z)) e ∙ ap (λ z. a +ℤ k · z) (+ℤ-invr r) ∙ ap (λ z. a +ℤ z) (*ℤ-zero (pos k)) ∙ +ℤ-idr a
 
@@ -52,7 +29,7 @@ vanish a l r k e = ap (λ z. a +ℤ k · (r -ℤ z)) e ∙ ap (λ z. a +ℤ k ·
 abbrev strayE : Order → E
 strayE o =
     amountE
-    (nat 0 ⊖ jumping (pick (var 0) (var 1) (var 2) (var 3)) (pick (var 4) (var 5) (var 6) (var 7)) o (nat 0) (nat 0) (var 8) (var 9) (var 10) (var 11) (var 12) (var 13))
+    (nat 0 ⊖ jumping (powers (var 0) (var 1) (var 2) (var 3)) (powers (var 4) (var 5) (var 6) (var 7)) o (nat 0) (nat 0) (var 8) (var 9) (var 10) (var 11) (var 12) (var 13))
 
 module _ (q : ℕ) (g p : ℕ → ℤ) (y⁻ y y⁺ s⁻ c⁻ s c s⁺ c⁺ m⁻ M⁻ m M m⁺ M⁺ : ℤ) where
   -- the powers, and what each number is off
@@ -68,8 +45,8 @@ module _ (q : ℕ) (g p : ℕ → ℤ) (y⁻ y y⁺ s⁻ c⁻ s c s⁺ c⁺ m⁻
   core third eq =
       ring all
       (λ q g₁ g₂ g₃ g₄ p₁ p₂ p₃ p₄ y⁻ y y⁺ s⁻ c⁻ s c s⁺ c⁺ m⁻ M⁻ m M m⁺ M⁺.
-      let g : ℕ → E = pick g₁ g₂ g₃ g₄ in
-      let p : ℕ → E = pick p₁ p₂ p₃ p₄ in (
+      let g : ℕ → E = powers g₁ g₂ g₃ g₄ in
+      let p : ℕ → E = powers p₁ p₂ p₃ p₄ in (
         # 2 :* (q :* amountE (jumping g p third (rising y y⁺) (rising y⁻ y) m⁻ M⁻ m M m⁺ M⁺)),
         amountE (nat 0 ⊖ jumping g p third (nat 0) (nat 0) (offE q s⁻ m⁻) (offE q c⁻ M⁻) (offE q s m) (offE q c M) (offE q s⁺ m⁺) (offE q c⁺ M⁺))
             :+ # 8192 :* (amountE (equalling g p third (num q) y⁻ y y⁺) :- amountE (equating g p third s⁻ c⁻ s c s⁺ c⁺)),
@@ -79,8 +56,8 @@ module _ (q : ℕ) (g p : ℕ → ℤ) (y⁻ y y⁺ s⁻ c⁻ s c s⁺ c⁺ m⁻
       sym (vanish _ _ _ 2048 eq)
       ∙ ring all
       (λ q g₁ g₂ g₃ g₄ p₁ p₂ p₃ p₄ y⁻ y y⁺ s⁻ c⁻ s c s⁺ c⁺ m⁻ M⁻ m M m⁺ M⁺.
-      let g : ℕ → E = pick g₁ g₂ g₃ g₄ in
-      let p : ℕ → E = pick p₁ p₂ p₃ p₄ in (
+      let g : ℕ → E = powers g₁ g₂ g₃ g₄ in
+      let p : ℕ → E = powers p₁ p₂ p₃ p₄ in (
         # 2 :* (q :* amountE (jumping g p fourth (rising y y⁺) (rising y⁻ y) m⁻ M⁻ m M m⁺ M⁺))
             :+ # 2048 :* (amountE (equalling g p fourth (num q) y⁻ y y⁺) :- amountE (equating g p fourth s⁻ c⁻ s c s⁺ c⁺)),
         amountE (nat 0 ⊖ jumping g p fourth (nat 0) (nat 0) (offE q s⁻ m⁻) (offE q c⁻ M⁻) (offE q s m) (offE q c M) (offE q s⁺ m⁺) (offE q c⁺ M⁺)),

@@ -8,3 +8,4 @@ pub mod Reading
 pub mod Log
 pub mod Steps
 pub mod Orders
+pub mod Demand

@@ -1,0 +1,6 @@
+pub mod Carried
+pub mod Widened
+pub mod Stands
+pub mod Sides
+pub mod Search
+pub mod Accepted

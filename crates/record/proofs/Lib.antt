@@ -1,0 +1,5 @@
+pub mod Numbers
+pub mod Stores
+pub mod Signs
+pub mod Records
+pub mod Examples

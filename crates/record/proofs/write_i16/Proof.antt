@@ -1,0 +1,18 @@
+-- `record::write_i16` meets its contract, by those of the functions that it calls. Assumes nothing.
+use mir.Syntax.{w16}
+use borrow.Author.Needs.{needs}
+use Rattle.record.proofs.Signs.{written-signed}
+use Rattle.record.proofs.write_i16.Statement.{statement}
+use Rattle.record.proofs.write_i16.Tie as tie
+use Rattle.record.proofs.write_i16.Reads as reads
+use Rattle.record.proofs.write_i16.Lts as lts
+use Rattle.record.proofs.bits16.Reads as bits16-reads
+use Rattle.record.proofs.write_u16.Reads as write-u16-reads
+
+returns : tie.Need-returns
+returns c =
+    let q = c .before .before in
+    written-signed w16 _ _ _ (q .before .before .before .before .fits .number) (q .before .bits16 .ensures) (q .write-u16 .ensures)
+
+pub write-i16-spec : {M : Type 1} → statement M
+write-i16-spec = tie.close (tie.spec (λ c κs. search needs) (λ c κs. search needs) (λ c. search needs) returns)
