@@ -18,8 +18,7 @@ use Rattle.curve.specs.Formula.{Formula, power, worth, ∂, ∂^}
 use Rattle.curve.specs.Curve.{N}
 use Rattle.curve.specs.Card.{gap}
 use Rattle.curve.specs.Reading.{between, denominator, reads}
-use Rattle.curve.proofs.Written.{worthE}
-use Rattle.curve.proofs.Derivatives.{curve}
+use Rattle.curve.proofs.Written.{curve, worthE}
 use Rattle.gaps.specs.declared.Knot.{Knot}
 use Rattle.gaps.specs.declared.Weights.{Weights}
 use Rattle.gaps.specs.declared.Quantity.{Quantity}

@@ -77,7 +77,7 @@ module _ (K : Kind) (t : T (readable K)) where
   narrow h p = leb→le _ _ (upto-at (narrows K) (K .widest-gap) (both-r (upto (λ h. gap-fits (limits K h) h) (K .widest-gap)) (upto (narrows K) (K .widest-gap)) t) h p)
 
   -- no wider gap of the kind has a wider limit
-  lower : (g g′ : ℕ) → g ≤ g′ → g′ ≤ K .widest-gap → K .curvatures g′ ≤ K .curvatures g
+  pub lower : (g g′ : ℕ) → g ≤ g′ → g′ ≤ K .widest-gap → K .curvatures g′ ≤ K .curvatures g
   lower zero zero p q = le-refl (K .curvatures 0)
   lower (suc g) zero p q = absurd (omega arith)
   lower g (suc g′) p q = go (decide g′ g p) (λ r. lower g g′ r (omega arith))
@@ -92,10 +92,9 @@ module _ (K : Kind) (t : T (readable K)) where
   pub tame : (h : ℕ) (a b : Knot) → h ≤ K .widest-gap → Keeps (limits K h) a → Keeps (limits K h) b → Tame (pos h) a b
   tame h a b p k l = record { limits = limits K h; fits = fits h p; left = k; right = l }
 
-  -- the limits by the wider of the gaps beside a knot hold on both
-  pub keeps : (k : Knot) (g g′ : ℕ) → g ≤ g′ → g′ ≤ K .widest-gap → natAbs (k .ordinate) ≤ K .ordinates → natAbs (k .slope) ≤ K .slopes → natAbs (k .curvature) ≤ K .curvatures g′ → Keeps (limits K g) k
-  unfolding limits
-  keeps k g g′ p q y m c = record { ordinate = y; slope = m; curvature = le-trans c (lower g g′ p q) }
+pub keeps : (K : Kind) (gap : ℕ) (k : Knot) → natAbs (k .ordinate) ≤ K .ordinates → natAbs (k .slope) ≤ K .slopes → natAbs (k .curvature) ≤ K .curvatures gap → Keeps (limits K gap) k
+unfolding limits
+keeps K gap k y m c = record { ordinate = y; slope = m; curvature = c }
 
 pub tried : (K : Kind) → T (testable K) → (square q h : ℕ) (before here after : Knot) → q ≤ K .widest-gap → h ≤ K .widest-gap
     → Keeps (limits K q) before → Keeps (limits K q) here → Keeps (limits K h) here → Keeps (limits K h) after → square ≤ 2 ^ 8
