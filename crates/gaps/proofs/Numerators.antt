@@ -16,6 +16,7 @@ use Rattle.whole.proofs.Solve.{E, _:+_, _:-_, _:*_, :neg, #, ring, both-l, both
 use Rattle.whole.proofs.Rounding.{nearest-same, nearest-most}
 use Rattle.curve.specs.Formula.{Formula, power, worth, ∂, ∂^}
 use Rattle.curve.specs.Curve.{N}
+use Rattle.curve.specs.Card
 use Rattle.curve.specs.Card.{gap}
 use Rattle.curve.specs.Reading.{between, denominator, reads}
 use Rattle.curve.proofs.Written.{curve, worthE}
@@ -23,7 +24,7 @@ use Rattle.gaps.specs.declared.Knot.{Knot}
 use Rattle.gaps.specs.declared.Weights.{Weights}
 use Rattle.gaps.specs.declared.Quantity.{Quantity}
 use Rattle.gaps.specs.declared.Quantity.the-variants.{Value, Slope, Curvature}
-use Rattle.gaps.specs.Weights.{derivative, weight, weighs, weigh, mirror, adds, placed, drawn, under, shown}
+use Rattle.gaps.specs.Weights.{derivative, weight, weighs, weigh, mirror, adds, placed, numbers as numbers-of, drawn, under, shown}
 use Rattle.gaps.specs.Limits.{In-gap, Limits, Keeps, Light, load, most, quantity-fits, gap-fits, widest, modest, Tame}
 use Rattle.gaps.proofs.Sizes.{weighing, loads-most}
 
@@ -223,3 +224,17 @@ reading-is {h} {t} {a} {b} g w = λ i.
     derived k =
         ap₂ (λ u n. nearest (4096 · worth (∂^ k (drawn h a b)) u) (8192 * n ^ 5)) minute (sub-zero (natAbs h))
         ∙ lowest (worth (∂^ k (drawn h a b)) t) (natAbs h ^ 5) (one-le-pow 5 (natAbs h) (omega (linear, g .wide, abs-is h)))
+
+-- what is read of two knots is read by their gap
+pub reads-by-gap : (a b : Card.Knot) (t : ℕ) → reads (placed 0 (numbers-of a)) (placed (gap a b) (numbers-of b)) t ≡ reads a b t
+unfolding reads denominator between gap
+reads-by-gap a b t =
+    ap
+    (λ n.
+    let f = curve (pos n) (a .y) (b .y) (a .m) (b .m) (a .M) (b .M) in
+    record {
+      value = nearest (worth f (pos t)) (8192 * n ^ 5);
+      slope = nearest (4096 · worth (∂^ 1 f) (pos t)) (8192 * n ^ 5);
+      curvature = nearest (4096 · worth (∂^ 2 f) (pos t)) (8192 * n ^ 5);
+    })
+    (sub-zero (gap a b))

@@ -7,15 +7,13 @@ ghost use lib.IntN.{pos};
 ghost use Rattle.answer.specs.Answer.{accepted, refused, given, each};
 ghost use Rattle.answer.specs.Judge.{verdict-of, numbered};
 ghost use Rattle.curve.specs.Kind.{quintic, end};
-ghost use Rattle.curve.specs.Card.{spot, joint};
+ghost use Rattle.curve.specs.Card.{joint};
 ghost use Rattle.curve.specs.Jump.{jumps};
-ghost use Rattle.curve.specs.Reading.{reads};
 ghost use Rattle.curve.specs.Steps.{stands, smooth};
 ghost use Rattle.curve.specs.Orders.{numbers-sound, sound, reading-order};
 ghost use Rattle.knots.specs.Kinds.{kind-of};
 ghost use Rattle.knots.specs.Lent.{lent};
 ghost use Rattle.gaps.specs.Sides.{order-of};
-ghost use Rattle.gaps.specs.Weights.{shown};
 ghost use Rattle.lists.specs.Lists.{Long, Checked, In-place, numbers-at, code-of, square-of, spell-of, answered};
 
 // ---- 10
@@ -67,7 +65,7 @@ fn asks(kind: knots::Kind, order: gaps::Order, code: u16) -> bool
 
 // The first number of a side's allowance.
 fn square(kind: knots::Kind, order: gaps::Order) -> i64
-    ensures { λ r. ⌜ r ≡ pos (square-of kind order) ⌝ }
+    ensures { λ r. ⌜ (r ≡ pos (square-of kind order)) × (square-of kind order < 2 ^ 8) ⌝ }
 {
     let squares = kind.squares;
     match order {

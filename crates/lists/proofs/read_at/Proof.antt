@@ -1,54 +1,57 @@
+-- `read_at` meets its contract: 11, then the reading of the minute's gap.
+-- Assumes nothing.
+use mathlib.Core.Path.{_≡_, sym, _∙_, ap, subst}
 use borrow.Author.Needs.{needs}
+use Rattle.answer.specs.Answer.{accepted, refused, given, _then_}
+use Rattle.answer.specs.Judge.{verdict-of}
+use Rattle.curve.specs.Reading.{reads-at, spell, gap-of}
+use Rattle.curve.specs.Steps.{outside}
+use Rattle.curve.specs.Orders.{reading-order}
+use Rattle.knots.specs.Lent.{lent}
+use Rattle.lists.specs.Lists.{In-place, answered, spell-of}
+use Rattle.lists.proofs.Settled.{minute-in-place}
 use Rattle.lists.proofs.read_at.Statement.{statement}
 use Rattle.lists.proofs.read_at.Tie as tie
-use Rattle.lists.proofs.read_at.Reads as reads
-use Rattle.lists.proofs.read_at.Lts as lts
-use Rattle.knots.proofs.gap_of.Reads as gap-of-reads
-use Rattle.knots.proofs.outside.Reads as outside-reads
-use Rattle.lists.proofs.CardReading.refused.Reads as refused-reads
-use Rattle.lists.proofs.read_gap.Reads as read-gap-reads
 
--- src/lib.rt:251:9
-outside-requires : tie.Need-outside-requires
-outside-requires c κs = search needs
+abbrev start : tie.After-enum-told → tie.Start
+start c = c .before .before .before .before
 
--- src/lib.rt:254:17
-enum-told : tie.Need-enum-told
-enum-told c = search needs
+inside : (c : tie.After-enum-told) → outside (start c .args .xs .now) (start c .args .minute) ≡ accepted
+inside c = sym (c .before .before .outside .ensures) ∙ ap verdict-of (c .enum-told .given .1)
 
--- src/lib.rt:254:17
-gap-of-requires : tie.Need-gap-of-requires
-gap-of-requires c κs = search needs
-
--- src/lib.rt:255:13
 read-gap-requires : tie.Need-read-gap-requires
-read-gap-requires c κs = ?
+read-gap-requires c κs =
+    let d = start (c .before) in
+    (d .pre .0, subst (λ i. In-place (d .args .xs .now) i (d .args .minute)) (sym (c .gap-of .ensures)) (minute-in-place (d .args .xs .now) (d .args .minute) (d .pre .1) (inside (c .before))))
 
--- src/lib.rt:257:33
-enum-known-outside : tie.Need-enum-known-outside
-enum-known-outside c = search needs
+read : tie.Need-returns
+unfolding reading-order reads-at spell _then_
+read c left right =
+    let d = start (c .before .before) in
+    let a = d .args in
+    let card = lent (a .xs .now) (a .ys .now) (a .ms .now) (a .cs .now) left right in
+    c .read-gap .ensures left right
+    ∙ ap (λ i. answered (given (spell-of card i (a .minute)))) (c .before .gap-of .ensures)
+    ∙ ap (λ v. answered (v then given (spell-of card (gap-of (a .xs .now) (a .minute)) (a .minute)))) (sym (inside (c .before .before)))
 
--- src/lib.rt:257:51
-refused-requires : tie.Need-refused-requires
-refused-requires c κs = search needs
-
--- src/lib.rt:246:1
-returns : tie.Need-returns
-returns c = ?
-
--- src/lib.rt:246:1
-returns-2 : tie.Need-returns-2
-returns-2 c = ?
+refuses : tie.Need-returns-2
+unfolding reading-order _then_
+refuses c left right =
+    let d = c .before .before .before .before .before .before in
+    let a = d .args in
+    let card = lent (a .xs .now) (a .ys .now) (a .ms .now) (a .cs .now) left right in
+    c .refused .ensures
+    ∙ ap (λ v. answered (v then given (reads-at card (a .minute)))) (sym (ap verdict-of (c .before .before .outside2 .given .1)) ∙ c .before .before .before .before .outside .ensures)
 
 pub read-at-spec : {M : Type 1} → statement M
 read-at-spec =
     tie.close
     (tie.spec
-    outside-requires
-    enum-told
-    gap-of-requires
+    (λ c κs. search needs)
+    (λ c. search needs)
+    (λ c κs. search needs)
     read-gap-requires
-    enum-known-outside
-    refused-requires
-    returns
-    returns-2)
+    (λ c. search needs)
+    (λ c κs. search needs)
+    read
+    refuses)
