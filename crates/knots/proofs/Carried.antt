@@ -1,12 +1,11 @@
 -- The kind that the code carries for document 01's card is the definitions' `quintic`, and every kind that it can carry has the same limits.
 -- Assumes nothing.
 use mathlib.Core.Path.{_≡_, refl}
-use mathlib.Core.Bool.{Bool, _&&_}
 use Prim.Native.Nat.{ℕ}
 use lib.IntN.{ℤ}
 use Rattle.curve.specs.Formula.{Formula}
 use Rattle.curve.specs.Curve.{Order, third, fourth, allowance}
-use Rattle.curve.specs.Kind.{Kind, Spot, quintic, quintic-asks}
+use Rattle.curve.specs.Kind.{Spot, quintic, quintic-asks}
 use Rattle.curve.specs.Steps.{counted, stands, slope-beyond, curvature-beyond, in-range}
 use Rattle.knots.specs.declared.Kind.{Kind as Carried}
 use Rattle.knots.specs.Kinds.{quintic-card, kind-of}

@@ -1,14 +1,12 @@
 -- The gap of a minute, as a search from the last gap downwards finds it, and where the minute then stands.
 -- Assumes nothing.
 use mathlib.Core.Path.{_≡_, refl, ap}
-use mathlib.Core.Logic.{_⊎_, inl, inr, ⊎-elim}
-use mathlib.Core.Bool.{cond}
 use mathlib.Core.List.{List}
-use Prim.Native.Nat.{ℕ, zero, suc, _+_, _-_, _≤_, _<_}
+use Prim.Native.Nat.{ℕ, zero, suc, _-_, _≤_, _<_}
 use native.Mathlib.Omega.{arith}
 use borrow.Author.Tests.{le-leb, lt-leb}
-use lib.ListN.{length, getD}
-use Rattle.curve.specs.Reading.{last-at, gap-of}
+use lib.ListN.{getD}
+use Rattle.curve.specs.Reading.{last-at}
 
 module _ (xs : List ℕ) (minute : ℕ) where
   abbrev x : ℕ → ℕ

@@ -7,7 +7,7 @@ use lib.Dec.{ltb}
 use Rattle.curve.specs.Formula.{Formula, _⊕_, _⊛_}
 use Rattle.curve.specs.Curve.{Order, third, fourth}
 use Rattle.curve.specs.Curve
-use Rattle.curve.specs.Kind.{Kind, Spot, quintic}
+use Rattle.curve.specs.Kind.{Kind, quintic}
 use Rattle.knots.specs.declared.Kind.{Kind as Carried}
 
 abbrev pub quintic-card : Carried

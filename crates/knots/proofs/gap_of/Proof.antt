@@ -1,7 +1,7 @@
 -- `knots::gap_of` meets its contract: the search goes down from the last gap, and what it has passed is not the minute's gap.
 -- Assumes nothing.
 use mathlib.Core.Path.{_≡_, refl, sym, _∙_}
-use Prim.Native.Nat.{_<_, _-_}
+use Prim.Native.Nat.{_<_}
 use native.Mathlib.Omega.{arith}
 use borrow.Author.Needs.{needs}
 use lib.ListN.{length}

@@ -1,0 +1,168 @@
+//! Times four functions of the library beside plain Rust that does the same with the same refusals: the fit of 64 knots, a
+//! reading off a card of 64 knots, the check of such a card, the mean of 60 bytes. The two are compared first. Rounds of
+//! the one and the other take turns; each number is the median round, in nanoseconds for one call.
+
+mod plain;
+
+use independent::boundary;
+use independent::curves::{self, Numbers, Sheet};
+use independent::random::Random;
+use independent::reference;
+use std::hint::black_box;
+use std::time::Instant;
+
+const KNOTS: usize = 64;
+const INPUTS: usize = 16;
+const ROUNDS: usize = 401;
+const ROUND_NANOSECONDS: f64 = 2e5;
+
+struct Inputs {
+    cards: Vec<Numbers>,
+    bytes: Vec<Vec<u8>>,
+    minutes: Vec<u16>,
+    logs: Vec<Vec<u8>>,
+}
+
+fn inputs(random: &mut Random) -> Inputs {
+    let cards: Vec<Numbers> = (0..INPUTS).map(|_| curves::fitted(random, KNOTS, 0, 0)).collect();
+    let bytes = cards.iter().map(Numbers::bytes).collect();
+    let minute = |card: &Numbers, random: &mut Random| {
+        let minutes = &card.sheet.minutes;
+        random.within(minutes[0].into(), minutes[KNOTS - 1].into()) as u16
+    };
+    let minutes = cards.iter().map(|card| minute(card, random)).collect();
+    let byte = |random: &mut Random| if random.once_in(10) { 255 } else { random.within(0, 200) as u8 };
+    let logs = (0..INPUTS).map(|_| (0..60).map(|_| byte(random)).collect()).collect();
+    Inputs { cards, bytes, minutes, logs }
+}
+
+/// The library and plain Rust, fitting one sheet into lists of a pattern, must leave the same.
+fn same_fit(sheet: &Sheet) {
+    let n = sheet.minutes.len();
+    let mut lists = [(vec![7; n], vec![8; n]), (vec![7; n], vec![8; n])];
+    let [ours, other] = &mut lists;
+    let answer = boundary::fit(&sheet.minutes, &sheet.ordinates, &mut ours.0, &mut ours.1);
+    assert_eq!(answer, plain::fit(&sheet.minutes, &sheet.ordinates, &mut other.0, &mut other.1), "fit of {sheet:?}");
+    assert_eq!(ours, other, "fit of {sheet:?}");
+}
+
+fn same_card(bytes: &[u8]) {
+    assert_eq!(boundary::check(bytes), plain::check(bytes), "check of {bytes:?}");
+    let minutes = match reference::check(bytes) {
+        Ok(card) => card.minutes[0].saturating_sub(1)..=card.minutes[card.minutes.len() - 1].saturating_add(1),
+        Err(_) => 0..=0,
+    };
+    for minute in minutes {
+        assert_eq!(boundary::reading(bytes, minute), plain::reading(bytes, minute), "reading at {minute} off {bytes:?}");
+    }
+}
+
+/// Sound and unsound inputs of each kind, so that plain Rust is seen to refuse alike.
+fn compare(inputs: &Inputs, random: &mut Random) {
+    for bytes in &inputs.bytes {
+        same_card(bytes);
+        same_card(&bytes[..random.below(bytes.len())]);
+        for _ in 0..300 {
+            let mut changed = bytes.clone();
+            changed[random.below(bytes.len())] ^= 1 << random.below(8);
+            same_card(&changed);
+        }
+    }
+    for n in 0..=KNOTS + 2 {
+        for turn in 0..60 {
+            let mut sheet = curves::sheet(random, n);
+            for _ in 0..turn % 3 {
+                curves::spoil(random, &mut sheet);
+            }
+            same_fit(&sheet);
+        }
+    }
+    for _ in 0..4000 {
+        if let Some(numbers) = curves::large_and_sound(random) {
+            same_card(&numbers.bytes());
+        }
+        let n = random.within(3, 6) as usize;
+        same_card(&curves::extreme(random, n).bytes());
+    }
+    for _ in 0..100_000 {
+        let top = random.pick(&[200, 200, 201, 255]);
+        let log: Vec<u8> = (0..random.below(62)).map(|_| random.within(0, top) as u8).collect();
+        assert_eq!(boundary::mean(9, &log), plain::mean(9, &log), "mean of {log:?}");
+    }
+}
+
+/// Nanoseconds for one call, over so many turns through the inputs.
+fn round(turns: usize, call: &mut dyn FnMut(usize)) -> f64 {
+    let start = Instant::now();
+    for _ in 0..turns {
+        for i in 0..INPUTS {
+            call(i);
+        }
+    }
+    start.elapsed().as_nanos() as f64 / (turns * INPUTS) as f64
+}
+
+fn median(mut times: Vec<f64>) -> f64 {
+    times.sort_by(f64::total_cmp);
+    times[times.len() / 2]
+}
+
+fn line(name: &str, mut ours: impl FnMut(usize), mut other: impl FnMut(usize)) {
+    let turns = 1 + (ROUND_NANOSECONDS / (INPUTS as f64 * round(200, &mut other))) as usize;
+    round(turns, &mut ours);
+    let (mut our_times, mut other_times) = (Vec::new(), Vec::new());
+    for _ in 0..ROUNDS {
+        our_times.push(round(turns, &mut ours));
+        other_times.push(round(turns, &mut other));
+    }
+    let (ours, other) = (median(our_times), median(other_times));
+    println!("{name:<36} {ours:>10.1} {other:>14.1} {:>8.2}", ours / other);
+}
+
+fn main() {
+    let mut random = Random::new(2024);
+    let inputs = inputs(&mut random);
+    compare(&inputs, &mut random);
+    println!("{:<36} {:>10} {:>14} {:>8}", "", "ours ns", "plain Rust ns", "ratio");
+
+    let (mut slopes, mut curvatures) = ([0; KNOTS], [0; KNOTS]);
+    let (mut other_slopes, mut other_curvatures) = ([0; KNOTS], [0; KNOTS]);
+    line(
+        "fit of 64 knots",
+        |i| {
+            let sheet = black_box(&inputs.cards[i].sheet);
+            black_box(boundary::fit(&sheet.minutes, &sheet.ordinates, black_box(&mut slopes), black_box(&mut curvatures)));
+        },
+        |i| {
+            let sheet = black_box(&inputs.cards[i].sheet);
+            black_box(plain::fit(&sheet.minutes, &sheet.ordinates, black_box(&mut other_slopes), black_box(&mut other_curvatures)));
+        },
+    );
+    line(
+        "reading off a card of 64 knots",
+        |i| {
+            black_box(boundary::reading(black_box(&inputs.bytes[i]), black_box(inputs.minutes[i])));
+        },
+        |i| {
+            black_box(plain::reading(black_box(&inputs.bytes[i]), black_box(inputs.minutes[i])));
+        },
+    );
+    line(
+        "check of a card of 64 knots",
+        |i| {
+            black_box(boundary::check(black_box(&inputs.bytes[i])));
+        },
+        |i| {
+            black_box(plain::check(black_box(&inputs.bytes[i])));
+        },
+    );
+    line(
+        "mean of 60 bytes",
+        |i| {
+            black_box(boundary::mean(black_box(600), black_box(&inputs.logs[i])));
+        },
+        |i| {
+            black_box(plain::mean(black_box(600), black_box(&inputs.logs[i])));
+        },
+    );
+}

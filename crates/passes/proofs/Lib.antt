@@ -1,0 +1,5 @@
+pub mod Lists
+pub mod Runs
+pub mod Backs
+pub mod Answers
+pub mod Table3

@@ -1,0 +1,4 @@
+pub mod Sheet
+pub mod Forward
+pub mod Back
+pub mod Passes

@@ -1,0 +1,58 @@
+-- The operations and the numbers of document 01's "The elimination, rounded once per operation". Assumes nothing.
+-- A number is written by its bit pattern, as the code has it; `numbers` computes that each pattern is its number.
+use mathlib.Core.Path.{_≡_, refl}
+use mathlib.Core.List.{[], _∷_, map}
+use lib.IntN.{pos, negsuc}
+use lib.Ieee as Ieee
+use lib.Ieee.{Float, binary64, ofBits, ofInt, neg}
+
+infixl 60 _⊕_
+infixl 60 _⊖_
+infixl 70 _⊗_
+infixl 70 _⊘_
+abbrev pub _⊕_ : Float → Float → Float
+x ⊕ y = Ieee.add binary64 x y
+
+abbrev pub _⊖_ : Float → Float → Float
+x ⊖ y = Ieee.sub binary64 x y
+
+abbrev pub _⊗_ : Float → Float → Float
+x ⊗ y = Ieee.mul binary64 x y
+
+abbrev pub _⊘_ : Float → Float → Float
+x ⊘ y = Ieee.div binary64 x y
+
+abbrev pub f0 : Float
+f0 = ofBits binary64 0
+
+abbrev pub f1 : Float
+f1 = ofBits binary64 0x3ff0_0000_0000_0000
+
+abbrev pub f3 : Float
+f3 = ofBits binary64 0x4008_0000_0000_0000
+
+abbrev pub f8 : Float
+f8 = ofBits binary64 0x4020_0000_0000_0000
+
+abbrev pub f12 : Float
+f12 = ofBits binary64 0x4028_0000_0000_0000
+
+abbrev pub f20 : Float
+f20 = ofBits binary64 0x4034_0000_0000_0000
+
+abbrev pub f56 : Float
+f56 = ofBits binary64 0x404c_0000_0000_0000
+
+abbrev pub f64 : Float
+f64 = ofBits binary64 0x4050_0000_0000_0000
+
+abbrev pub f120 : Float
+f120 = ofBits binary64 0x405e_0000_0000_0000
+
+abbrev pub f-8 : Float
+f-8 = neg f8
+
+pub numbers : (f0 ∷ f1 ∷ f3 ∷ f8 ∷ f12 ∷ f20 ∷ f56 ∷ f64 ∷ f120 ∷ f-8 ∷ [])
+    ≡ map (ofInt binary64) (pos 0 ∷ pos 1 ∷ pos 3 ∷ pos 8 ∷ pos 12 ∷ pos 20 ∷ pos 56 ∷ pos 64 ∷ pos 120 ∷ negsuc 7 ∷ [])
+unfolding ofBits ofInt neg
+numbers = refl

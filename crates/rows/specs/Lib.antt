@@ -1,0 +1,4 @@
+pub mod Floats
+pub mod Equations
+pub mod Elimination
+pub mod Refusal

@@ -1,0 +1,155 @@
+/* kaihveto.h: the curves of a drying hall's set points, for C and C++ on x86-64.
+
+   Link with libkaihveto.a, which `rt staticlib kaihveto` writes; beside it only the C library is needed. The library keeps
+   nothing between calls and asks the system for nothing; a fit of 64 knots needs some kilobytes of stack.
+
+   Words. A knot has a minute (0 to 65,535) and an ordinate (whole hundredths, -20,000 to 20,000). A card has 3 to 64 knots
+   with gaps of 1 to 60 minutes, and adds to each knot a slope and a curvature in card units: 1/4096 hundredth per minute, and
+   1/4096 hundredth per minute squared, each from -1,048,576 to 1,048,576. Each end of a card has a code:
+
+     KAIHVETO_FREE             third and fourth derivatives zero
+     KAIHVETO_BOTH_GIVEN       slope and curvature given
+     KAIHVETO_CURVATURE_GIVEN  curvature given, fourth derivative zero
+
+   Lists. A list is passed as a pointer and then its length, counted in elements. A list that a function may write to must
+   overlap no other list of the same call; lists that are only read may overlap one another. A pointer must be aligned for
+   its type. A list of length 0 has no element to point to: pass any pointer that is aligned and not NULL, as the address of
+   some variable of that type; nothing is read or written through it.
+
+   Answers. Every answer starts with a number and a place. Number 0 is acceptance, with place 0. Any other number is a
+   refusal: the fields behind number and place are then 0, and nothing has been written to any list. Knots and bytes count
+   from 0. Every input is allowed: what is not sound is refused, and a call always returns. */
+
+#ifndef KAIHVETO_H
+#define KAIHVETO_H
+
+#include <stddef.h>
+#include <stdint.h>
+
+#ifdef __cplusplus
+extern "C" {
+#endif
+
+/* The end codes. */
+#define KAIHVETO_FREE 0
+#define KAIHVETO_BOTH_GIVEN 1
+#define KAIHVETO_CURVATURE_GIVEN 2
+
+/* The most knots of a card, and the bytes of a card of n knots. */
+#define KAIHVETO_MOST_KNOTS 64
+#define KAIHVETO_CARD_BYTES(n) (14 + 16 * (n))
+
+/* The numbers of refusal. The place is 0 where none is named. */
+enum kaihveto_number {
+    KAIHVETO_ACCEPTED = 0,             /* accepted */
+    KAIHVETO_TOO_FEW_KNOTS = 1,        /* fewer than 3 knots */
+    KAIHVETO_TOO_MANY_KNOTS = 2,       /* more than 64 knots */
+    KAIHVETO_LENGTHS_DIFFER = 3,       /* the lists of minutes, ordinates, slopes, curvatures differ in length */
+    KAIHVETO_MINUTE_NOT_RISING = 4,    /* minute not above the one before; place: the knot */
+    KAIHVETO_GAP_TOO_WIDE = 5,         /* gap over 60 minutes; place: its right knot */
+    KAIHVETO_ORDINATE_BEYOND = 6,      /* ordinate beyond 20,000 either way; place: the knot */
+    KAIHVETO_GIVEN_NUMBER_BEYOND = 7,  /* given end number NaN, infinite or beyond 256 either way; place: the end knot */
+    KAIHVETO_NO_SOLUTION = 8,          /* the elimination met a determinant of 0 or a number not finite; place: the knot */
+    KAIHVETO_CARD_NUMBER_BEYOND = 9,   /* slope or curvature beyond 1,048,576 either way; place: the knot */
+    KAIHVETO_JUMP = 10,                /* third or fourth derivative jumps by more than is allowed; place: the knot */
+    KAIHVETO_MINUTE_OUTSIDE = 11,      /* minute outside the card */
+    KAIHVETO_LOG_BYTE = 12,            /* log byte 201 to 254; place: the byte */
+    KAIHVETO_NO_GOOD_BYTE = 13,        /* no good byte in the log */
+    KAIHVETO_RECORD = 14,              /* record cut short, of wrong kind or length, or bytes behind the end; place: its offset */
+    KAIHVETO_END_CODE = 15,            /* end code not 0, 1, 2; place: 0 left, 1 right */
+    KAIHVETO_LOG_LENGTH = 16,          /* log length not 1 to 60 */
+    KAIHVETO_NO_ROOM = 26              /* buffer under 14 + 16n bytes, or lists under n places */
+};
+
+/* The mean of a log of 1 to 60 bytes, one a minute: 0 to 200 are half percents, 255 is a fault and is skipped. The answer has
+   the minute handed in, the ordinate of the knot that stands there, and how many bytes were good.
+   Refusals, in this order: 16, 12, 13. Nothing is written. */
+typedef struct {
+    uint32_t number;
+    uint32_t place;
+    uint32_t minute;
+    int32_t ordinate;
+    uint32_t good;
+} kaihveto_mean_answer;
+
+kaihveto_mean_answer kaihveto_mean(uint16_t minute, const uint8_t *log, size_t log_length);
+
+/* The fit: the slopes and curvatures, in card units, of the curve through these knots. All four lists have one length, the
+   number of knots; on acceptance every place of slopes and curvatures is written. Both ends are free.
+   Refusals, in this order: 3, 1, 2; 4, 5, 6 knot by knot; 8, 9, 10. */
+typedef struct {
+    uint32_t number;
+    uint32_t place;
+} kaihveto_fit_answer;
+
+kaihveto_fit_answer kaihveto_fit(const uint16_t *minutes, size_t minutes_length,
+                                 const int16_t *ordinates, size_t ordinates_length,
+                                 int32_t *slopes, size_t slopes_length,
+                                 int32_t *curvatures, size_t curvatures_length);
+
+/* The same with ends of the caller's choice. The given numbers are in hundredths per minute and per minute squared, not in
+   card units; those that a code does not use are not looked at.
+   Refusals, in this order: 3, 1, 2, 15; 4, 5, 6 knot by knot; 7 left, then right; 8, 9, 10. */
+kaihveto_fit_answer kaihveto_fit_ends(const uint16_t *minutes, size_t minutes_length,
+                                      const int16_t *ordinates, size_t ordinates_length,
+                                      int32_t *slopes, size_t slopes_length,
+                                      int32_t *curvatures, size_t curvatures_length,
+                                      uint16_t left, double left_slope, double left_curvature,
+                                      uint16_t right, double right_slope, double right_curvature);
+
+/* Writes a card: on acceptance the first 14 + 16n bytes of the buffer, n being the lists' length, and no other. The answer
+   has the number of bytes written.
+   Refusals, in this order: 3, 1, 2, 15; 4, 5, 6 knot by knot; 9, 10, 26. */
+typedef struct {
+    uint32_t number;
+    uint32_t place;
+    uint32_t bytes;
+} kaihveto_write_answer;
+
+kaihveto_write_answer kaihveto_write(const uint16_t *minutes, size_t minutes_length,
+                                     const int16_t *ordinates, size_t ordinates_length,
+                                     const int32_t *slopes, size_t slopes_length,
+                                     const int32_t *curvatures, size_t curvatures_length,
+                                     uint16_t left, uint16_t right,
+                                     uint8_t *buffer, size_t buffer_length);
+
+/* Checks a card's bytes; nothing may follow the card. The answer has the number of knots and the two end codes.
+   Refusals, in this order: 14 of the head; 1, 2, 15; 14 of the other records; 4, 5, 6 knot by knot; 9, 10. Nothing is
+   written. */
+typedef struct {
+    uint32_t number;
+    uint32_t place;
+    uint32_t knots;
+    uint32_t left;
+    uint32_t right;
+} kaihveto_card_answer;
+
+kaihveto_card_answer kaihveto_check(const uint8_t *card, size_t card_length);
+
+/* Reads a card into four lists of one length: on acceptance the first n places of each, n being the card's number of knots,
+   and no other. The answer is that of kaihveto_check.
+   Refusals, in this order: 3, those of kaihveto_check, 26. */
+kaihveto_card_answer kaihveto_read(const uint8_t *card, size_t card_length,
+                                   uint16_t *minutes, size_t minutes_length,
+                                   int16_t *ordinates, size_t ordinates_length,
+                                   int32_t *slopes, size_t slopes_length,
+                                   int32_t *curvatures, size_t curvatures_length);
+
+/* Reads the curve off a card's bytes at a minute: value in hundredths, slope and curvature in card units, each the exact
+   curve's rounded to nearest, ties to even.
+   Refusals, in this order: those of kaihveto_check, 11. Nothing is written. */
+typedef struct {
+    uint32_t number;
+    uint32_t place;
+    int32_t value;
+    int32_t slope;
+    int32_t curvature;
+} kaihveto_reading_answer;
+
+kaihveto_reading_answer kaihveto_reading(const uint8_t *card, size_t card_length, uint16_t minute);
+
+#ifdef __cplusplus
+}
+#endif
+
+#endif

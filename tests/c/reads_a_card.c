@@ -1,0 +1,64 @@
+/* Fits document 01's Table 3 through the C header, writes its card, checks it, reads it back and takes readings off it.
+   What it prints is held against reads_a_card.expected. */
+
+#include <stdio.h>
+
+#include "kaihveto.h"
+
+#define KNOTS 5
+
+int main(void)
+{
+    const uint16_t minutes[KNOTS] = {0, 8, 16, 24, 32};
+    const int16_t ordinates[KNOTS] = {500, 0, 500, 0, 500};
+    int32_t slopes[KNOTS], curvatures[KNOTS];
+    uint8_t card[KAIHVETO_CARD_BYTES(KNOTS)];
+    uint16_t read_minutes[KAIHVETO_MOST_KNOTS];
+    int16_t read_ordinates[KAIHVETO_MOST_KNOTS];
+    int32_t read_slopes[KAIHVETO_MOST_KNOTS], read_curvatures[KAIHVETO_MOST_KNOTS];
+
+    kaihveto_fit_answer fit = kaihveto_fit(minutes, KNOTS, ordinates, KNOTS, slopes, KNOTS, curvatures, KNOTS);
+    printf("fit: %u at %u\n", fit.number, fit.place);
+
+    kaihveto_write_answer written = kaihveto_write(minutes, KNOTS, ordinates, KNOTS, slopes, KNOTS, curvatures, KNOTS,
+                                                   KAIHVETO_FREE, KAIHVETO_FREE, card, sizeof card);
+    printf("write: %u at %u, %u bytes:", written.number, written.place, written.bytes);
+    for (int i = 0; i < 26; i++)
+        printf(" %02X", card[i]);
+    printf("\n");
+
+    kaihveto_card_answer checked = kaihveto_check(card, sizeof card);
+    printf("check: %u at %u, %u knots, ends %u and %u\n", checked.number, checked.place, checked.knots, checked.left,
+           checked.right);
+
+    kaihveto_card_answer read = kaihveto_read(card, sizeof card, read_minutes, KAIHVETO_MOST_KNOTS, read_ordinates,
+                                              KAIHVETO_MOST_KNOTS, read_slopes, KAIHVETO_MOST_KNOTS, read_curvatures,
+                                              KAIHVETO_MOST_KNOTS);
+    for (uint32_t i = 0; i < read.knots; i++)
+        printf("%u %d %d %d\n", (unsigned)read_minutes[i], read_ordinates[i], read_slopes[i], read_curvatures[i]);
+
+    kaihveto_reading_answer reading = kaihveto_reading(card, sizeof card, 4);
+    printf("minute 4: %u at %u, value %d, slope %d, curvature %d\n", reading.number, reading.place, reading.value,
+           reading.slope, reading.curvature);
+
+    reading = kaihveto_reading(card, sizeof card, 33);
+    printf("minute 33: %u at %u, value %d, slope %d, curvature %d\n", reading.number, reading.place, reading.value,
+           reading.slope, reading.curvature);
+
+    checked = kaihveto_check(card, sizeof card - 1);
+    printf("a byte short: %u at %u, %u knots, ends %u and %u\n", checked.number, checked.place, checked.knots, checked.left,
+           checked.right);
+
+    fit = kaihveto_fit_ends(minutes, KNOTS, ordinates, KNOTS, slopes, KNOTS, curvatures, KNOTS, KAIHVETO_BOTH_GIVEN, 256.5,
+                            0.0, KAIHVETO_CURVATURE_GIVEN, 0.0, 1.0);
+    printf("left slope 256.5: %u at %u\n", fit.number, fit.place);
+    fit = kaihveto_fit_ends(minutes, KNOTS, ordinates, KNOTS, slopes, KNOTS, curvatures, KNOTS, KAIHVETO_BOTH_GIVEN, -1.5,
+                            0.25, KAIHVETO_CURVATURE_GIVEN, 0.0, 1.0);
+    printf("left slope -1.5 and curvature 0.25, right curvature 1: %u at %u, left %d %d, right %d %d\n", fit.number, fit.place,
+           slopes[0], curvatures[0], slopes[KNOTS - 1], curvatures[KNOTS - 1]);
+
+    const uint8_t log[3] = {100, 255, 102};
+    kaihveto_mean_answer mean = kaihveto_mean(60, log, sizeof log);
+    printf("mean: %u at %u, minute %u, ordinate %d, good %u\n", mean.number, mean.place, mean.minute, mean.ordinate, mean.good);
+    return 0;
+}

@@ -1,0 +1,23 @@
+//! Links libkaihveto.a from the folder that KAIHVETO_LIB names, or from where `rt staticlib kaihveto` writes it.
+//! Where there is none yet, the package still builds, without the comparison (the cfg `linked` is then off).
+
+use std::env;
+use std::path::PathBuf;
+
+fn main() {
+    println!("cargo:rustc-check-cfg=cfg(linked)");
+    println!("cargo:rerun-if-env-changed=KAIHVETO_LIB");
+    println!("cargo:rerun-if-changed=build.rs");
+    let package = PathBuf::from(env::var_os("CARGO_MANIFEST_DIR").expect("cargo names the package's folder"));
+    let folder = match env::var_os("KAIHVETO_LIB") {
+        Some(named) => PathBuf::from(named),
+        None => package.join("../../target/staticlib"),
+    };
+    let archive = folder.join("libkaihveto.a");
+    println!("cargo:rerun-if-changed={}", archive.display());
+    if archive.is_file() {
+        println!("cargo:rustc-cfg=linked");
+        println!("cargo:rustc-link-search=native={}", folder.display());
+        println!("cargo:rustc-link-lib=static=kaihveto");
+    }
+}

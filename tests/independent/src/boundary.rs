@@ -1,0 +1,204 @@
+//! The library's functions as they are linked, each wrapped so that safe Rust can call it: a slice passes as its pointer and
+//! then its length, an answer comes back by value.
+
+/// What kaihveto_mean answers.
+#[repr(C)]
+#[derive(Clone, Copy, Debug, Default, PartialEq, Eq)]
+pub struct Mean {
+    pub number: u32,
+    pub place: u32,
+    pub minute: u32,
+    pub ordinate: i32,
+    pub good: u32,
+}
+
+/// What the two fits answer.
+#[repr(C)]
+#[derive(Clone, Copy, Debug, Default, PartialEq, Eq)]
+pub struct Fitted {
+    pub number: u32,
+    pub place: u32,
+}
+
+/// What kaihveto_write answers.
+#[repr(C)]
+#[derive(Clone, Copy, Debug, Default, PartialEq, Eq)]
+pub struct Written {
+    pub number: u32,
+    pub place: u32,
+    pub bytes: u32,
+}
+
+/// What kaihveto_check and kaihveto_read answer.
+#[repr(C)]
+#[derive(Clone, Copy, Debug, Default, PartialEq, Eq)]
+pub struct Checked {
+    pub number: u32,
+    pub place: u32,
+    pub knots: u32,
+    pub left: u32,
+    pub right: u32,
+}
+
+/// What kaihveto_reading answers.
+#[repr(C)]
+#[derive(Clone, Copy, Debug, Default, PartialEq, Eq)]
+pub struct Reading {
+    pub number: u32,
+    pub place: u32,
+    pub value: i32,
+    pub slope: i32,
+    pub curvature: i32,
+}
+
+/// An end as the boundary takes it: a code number and the two numbers beside it.
+#[derive(Clone, Copy, Debug)]
+pub struct End {
+    pub code: u16,
+    pub slope: f64,
+    pub curvature: f64,
+}
+
+extern "C" {
+    fn kaihveto_mean(minute: u16, log: *const u8, log_length: usize) -> Mean;
+    fn kaihveto_fit(
+        minutes: *const u16,
+        minutes_length: usize,
+        ordinates: *const i16,
+        ordinates_length: usize,
+        slopes: *mut i32,
+        slopes_length: usize,
+        curvatures: *mut i32,
+        curvatures_length: usize,
+    ) -> Fitted;
+    fn kaihveto_fit_ends(
+        minutes: *const u16,
+        minutes_length: usize,
+        ordinates: *const i16,
+        ordinates_length: usize,
+        slopes: *mut i32,
+        slopes_length: usize,
+        curvatures: *mut i32,
+        curvatures_length: usize,
+        left: u16,
+        left_slope: f64,
+        left_curvature: f64,
+        right: u16,
+        right_slope: f64,
+        right_curvature: f64,
+    ) -> Fitted;
+    fn kaihveto_write(
+        minutes: *const u16,
+        minutes_length: usize,
+        ordinates: *const i16,
+        ordinates_length: usize,
+        slopes: *const i32,
+        slopes_length: usize,
+        curvatures: *const i32,
+        curvatures_length: usize,
+        left: u16,
+        right: u16,
+        buffer: *mut u8,
+        buffer_length: usize,
+    ) -> Written;
+    fn kaihveto_check(card: *const u8, card_length: usize) -> Checked;
+    fn kaihveto_read(
+        card: *const u8,
+        card_length: usize,
+        minutes: *mut u16,
+        minutes_length: usize,
+        ordinates: *mut i16,
+        ordinates_length: usize,
+        slopes: *mut i32,
+        slopes_length: usize,
+        curvatures: *mut i32,
+        curvatures_length: usize,
+    ) -> Checked;
+    fn kaihveto_reading(card: *const u8, card_length: usize, minute: u16) -> Reading;
+}
+
+// Each call below passes pointers and lengths of slices that live until it returns and, where they are lent for writing, overlap no other.
+
+pub fn mean(minute: u16, log: &[u8]) -> Mean {
+    unsafe { kaihveto_mean(minute, log.as_ptr(), log.len()) }
+}
+
+pub fn fit(minutes: &[u16], ordinates: &[i16], slopes: &mut [i32], curvatures: &mut [i32]) -> Fitted {
+    unsafe {
+        kaihveto_fit(
+            minutes.as_ptr(),
+            minutes.len(),
+            ordinates.as_ptr(),
+            ordinates.len(),
+            slopes.as_mut_ptr(),
+            slopes.len(),
+            curvatures.as_mut_ptr(),
+            curvatures.len(),
+        )
+    }
+}
+
+pub fn fit_ends(minutes: &[u16], ordinates: &[i16], slopes: &mut [i32], curvatures: &mut [i32], left: End, right: End) -> Fitted {
+    unsafe {
+        kaihveto_fit_ends(
+            minutes.as_ptr(),
+            minutes.len(),
+            ordinates.as_ptr(),
+            ordinates.len(),
+            slopes.as_mut_ptr(),
+            slopes.len(),
+            curvatures.as_mut_ptr(),
+            curvatures.len(),
+            left.code,
+            left.slope,
+            left.curvature,
+            right.code,
+            right.slope,
+            right.curvature,
+        )
+    }
+}
+
+pub fn write(minutes: &[u16], ordinates: &[i16], slopes: &[i32], curvatures: &[i32], left: u16, right: u16, buffer: &mut [u8]) -> Written {
+    unsafe {
+        kaihveto_write(
+            minutes.as_ptr(),
+            minutes.len(),
+            ordinates.as_ptr(),
+            ordinates.len(),
+            slopes.as_ptr(),
+            slopes.len(),
+            curvatures.as_ptr(),
+            curvatures.len(),
+            left,
+            right,
+            buffer.as_mut_ptr(),
+            buffer.len(),
+        )
+    }
+}
+
+pub fn check(card: &[u8]) -> Checked {
+    unsafe { kaihveto_check(card.as_ptr(), card.len()) }
+}
+
+pub fn read(card: &[u8], minutes: &mut [u16], ordinates: &mut [i16], slopes: &mut [i32], curvatures: &mut [i32]) -> Checked {
+    unsafe {
+        kaihveto_read(
+            card.as_ptr(),
+            card.len(),
+            minutes.as_mut_ptr(),
+            minutes.len(),
+            ordinates.as_mut_ptr(),
+            ordinates.len(),
+            slopes.as_mut_ptr(),
+            slopes.len(),
+            curvatures.as_mut_ptr(),
+            curvatures.len(),
+        )
+    }
+}
+
+pub fn reading(card: &[u8], minute: u16) -> Reading {
+    unsafe { kaihveto_reading(card.as_ptr(), card.len(), minute) }
+}

@@ -1,0 +1,187 @@
+//! One comparison for each function of the boundary: the same input to the library and to the reference, then answers and
+//! lent lists held against each other. The lists stand inside longer ones that are filled with a pattern, so that a write
+//! behind n, past the end or on a refusal shows.
+
+use crate::boundary;
+use crate::reference::{self, End, Refusal};
+use std::fmt::Write as _;
+
+/// How many differences are printed; the rest are counted.
+const SHOWN: u64 = 20;
+
+/// Places of pattern before and behind each lent list.
+const GUARD: usize = 5;
+
+#[derive(Default)]
+pub struct Tally {
+    pub comparisons: u64,
+    pub differences: u64,
+    /// How often each number of refusal was the reference's answer.
+    pub numbers: [u64; 32],
+}
+
+impl Tally {
+    fn count<A: PartialEq + std::fmt::Debug>(
+        &mut self,
+        number: u32,
+        ours: A,
+        wanted: A,
+        lists_alike: bool,
+        input: impl FnOnce() -> String,
+    ) {
+        self.comparisons += 1;
+        self.numbers[number as usize] += 1;
+        if ours == wanted && lists_alike {
+            return;
+        }
+        self.differences += 1;
+        if self.differences <= SHOWN {
+            let lists = if lists_alike { "" } else { " (a lent list differs)" };
+            println!("{}\n  library   {ours:?}\n  reference {wanted:?}{lists}", input());
+        }
+    }
+}
+
+/// A list of a pattern; what is lent is its middle.
+fn pattern<T>(length: usize, of: impl Fn(usize) -> T) -> Vec<T> {
+    (0..length + 2 * GUARD).map(of).collect()
+}
+
+fn u16_pattern(length: usize) -> Vec<u16> {
+    pattern(length, |i| 0xA500 + i as u16)
+}
+
+fn i16_pattern(length: usize) -> Vec<i16> {
+    pattern(length, |i| -23_000 - i as i16)
+}
+
+fn i32_pattern(length: usize) -> Vec<i32> {
+    pattern(length, |i| 0x5A5A_0000 + i as i32)
+}
+
+fn u8_pattern(length: usize) -> Vec<u8> {
+    pattern(length, |i| 0xA5 ^ i as u8)
+}
+
+fn lent<T>(list: &mut [T]) -> &mut [T] {
+    let end = list.len() - GUARD;
+    &mut list[GUARD..end]
+}
+
+/// Bytes as they are handed on in a message.
+fn hex(bytes: &[u8]) -> String {
+    bytes.iter().fold(String::new(), |mut text, byte| {
+        let _ = write!(text, "{byte:02x}");
+        text
+    })
+}
+
+fn number<T>(answer: &Result<T, Refusal>) -> u32 {
+    answer.as_ref().map_or_else(|refusal| refusal.number, |_| 0)
+}
+
+pub fn mean(tally: &mut Tally, minute: u16, log: &[u8]) {
+    let wanted = match reference::mean(minute, log) {
+        Ok(mean) => boundary::Mean { minute: mean.minute.into(), ordinate: mean.ordinate, good: mean.good, ..Default::default() },
+        Err(Refusal { number, place }) => boundary::Mean { number, place, ..Default::default() },
+    };
+    tally.count(wanted.number, boundary::mean(minute, log), wanted, true, || format!("mean {minute} of {}", hex(log)));
+}
+
+fn fitted(answer: &Result<(), Refusal>) -> boundary::Fitted {
+    match *answer {
+        Ok(()) => boundary::Fitted::default(),
+        Err(Refusal { number, place }) => boundary::Fitted { number, place },
+    }
+}
+
+/// The fit without ends, into lists of these lengths.
+pub fn fit(tally: &mut Tally, minutes: &[u16], ordinates: &[i16], lengths: [usize; 2]) {
+    let lists = lengths.map(i32_pattern);
+    let [mut slopes, mut curvatures] = lists.clone();
+    let ours = boundary::fit(minutes, ordinates, lent(&mut slopes), lent(&mut curvatures));
+    let [mut wanted_slopes, mut wanted_curvatures] = lists;
+    let wanted = reference::fit(minutes, ordinates, lent(&mut wanted_slopes), lent(&mut wanted_curvatures));
+    let alike = slopes == wanted_slopes && curvatures == wanted_curvatures;
+    let input = || format!("fit {minutes:?} {ordinates:?} into {lengths:?}");
+    tally.count(number(&wanted), ours, fitted(&wanted), alike, input);
+}
+
+/// The fit with ends, into lists of these lengths.
+pub fn fit_ends(tally: &mut Tally, minutes: &[u16], ordinates: &[i16], lengths: [usize; 2], left: End, right: End) {
+    let lists = lengths.map(i32_pattern);
+    let [mut slopes, mut curvatures] = lists.clone();
+    let handed = |end: End| boundary::End { code: end.code, slope: end.slope, curvature: end.curvature };
+    let ours = boundary::fit_ends(minutes, ordinates, lent(&mut slopes), lent(&mut curvatures), handed(left), handed(right));
+    let [mut wanted_slopes, mut wanted_curvatures] = lists;
+    let wanted = reference::fit_ends(minutes, ordinates, lent(&mut wanted_slopes), lent(&mut wanted_curvatures), left, right);
+    let alike = slopes == wanted_slopes && curvatures == wanted_curvatures;
+    let input = || format!("fit_ends {minutes:?} {ordinates:?} into {lengths:?} with {left:?} {right:?}");
+    tally.count(number(&wanted), ours, fitted(&wanted), alike, input);
+}
+
+/// The writer, into a buffer of this length.
+pub fn write(tally: &mut Tally, minutes: &[u16], ordinates: &[i16], slopes: &[i32], curvatures: &[i32], codes: [u16; 2], length: usize) {
+    let [left, right] = codes;
+    let mut buffer = u8_pattern(length);
+    let mut wanted_buffer = buffer.clone();
+    let ours = boundary::write(minutes, ordinates, slopes, curvatures, left, right, lent(&mut buffer));
+    let wanted = reference::write(minutes, ordinates, slopes, curvatures, left, right, lent(&mut wanted_buffer));
+    let wanted_answer = match wanted {
+        Ok(bytes) => boundary::Written { bytes, ..Default::default() },
+        Err(Refusal { number, place }) => boundary::Written { number, place, ..Default::default() },
+    };
+    let alike = buffer == wanted_buffer;
+    let input = || format!("write {minutes:?} {ordinates:?} {slopes:?} {curvatures:?} {codes:?} into {length}");
+    tally.count(number(&wanted), ours, wanted_answer, alike, input);
+}
+
+fn checked(answer: &Result<reference::Card, Refusal>) -> boundary::Checked {
+    match answer {
+        Ok(card) => {
+            boundary::Checked { knots: card.minutes.len() as u32, left: card.left.into(), right: card.right.into(), ..Default::default() }
+        }
+        Err(Refusal { number, place }) => boundary::Checked { number: *number, place: *place, ..Default::default() },
+    }
+}
+
+pub fn check(tally: &mut Tally, card: &[u8]) {
+    let wanted = reference::check(card);
+    tally.count(number(&wanted), boundary::check(card), checked(&wanted), true, || format!("check {}", hex(card)));
+}
+
+/// The reader, into lists of these lengths.
+pub fn read(tally: &mut Tally, card: &[u8], lengths: [usize; 4]) {
+    let lists = || (u16_pattern(lengths[0]), i16_pattern(lengths[1]), i32_pattern(lengths[2]), i32_pattern(lengths[3]));
+    let mut ours = lists();
+    let mut wanted = lists();
+    let answer = boundary::read(card, lent(&mut ours.0), lent(&mut ours.1), lent(&mut ours.2), lent(&mut ours.3));
+    let wanted_answer = reference::read(card, lent(&mut wanted.0), lent(&mut wanted.1), lent(&mut wanted.2), lent(&mut wanted.3));
+    let input = || format!("read {} into {lengths:?}", hex(card));
+    tally.count(number(&wanted_answer), answer, checked(&wanted_answer), ours == wanted, input);
+}
+
+fn compare_reading(tally: &mut Tally, card: &[u8], minute: u16, wanted: Result<reference::Reading, Refusal>) {
+    let answer = match wanted {
+        Ok(reading) => boundary::Reading { value: reading.value, slope: reading.slope, curvature: reading.curvature, ..Default::default() },
+        Err(Refusal { number, place }) => boundary::Reading { number, place, ..Default::default() },
+    };
+    tally.count(answer.number, boundary::reading(card, minute), answer, true, || format!("reading at {minute} off {}", hex(card)));
+}
+
+pub fn reading(tally: &mut Tally, card: &[u8], minute: u16) {
+    compare_reading(tally, card, minute, reference::reading(card, minute));
+}
+
+/// Every minute of a card, one before, one behind, and the two ends of all minutes.
+pub fn readings(tally: &mut Tally, card: &[u8]) {
+    let Ok(sound) = reference::check(card) else {
+        reading(tally, card, 0);
+        return;
+    };
+    let (first, last) = (sound.minutes[0], sound.minutes[sound.minutes.len() - 1]);
+    let (from, to) = (first.saturating_sub(1), last.saturating_add(1));
+    for minute in (from..=to).chain([0, u16::MAX]) {
+        compare_reading(tally, card, minute, reference::reading_of(&sound, minute));
+    }
+}

@@ -1,0 +1,350 @@
+//! Makes knots and cards to compare on: sheets of many shapes, fitted cards, cards put together by hand at the limits, and
+//! cards that stand just within or just past the allowance.
+
+use crate::random::Random;
+use crate::reference::{self, card_bytes, End, Knot, CARD_NUMBER_LIMIT, FREE, ORDINATE_LIMIT, WIDEST_GAP};
+
+/// Minutes and ordinates.
+#[derive(Clone, Debug)]
+pub struct Sheet {
+    pub minutes: Vec<u16>,
+    pub ordinates: Vec<i16>,
+}
+
+/// The numbers of a card before they are bytes, sound or not.
+#[derive(Clone, Debug)]
+pub struct Numbers {
+    pub sheet: Sheet,
+    pub slopes: Vec<i32>,
+    pub curvatures: Vec<i32>,
+    pub left: u16,
+    pub right: u16,
+}
+
+impl Numbers {
+    pub fn bytes(&self) -> Vec<u8> {
+        card_bytes(&self.sheet.minutes, &self.sheet.ordinates, &self.slopes, &self.curvatures, self.left, self.right)
+    }
+
+    pub fn accepted(&self) -> bool {
+        reference::check(&self.bytes()).is_ok()
+    }
+
+    fn knot(&mut self, x: u16, y: i16, m: i32, c: i32) {
+        self.sheet.minutes.push(x);
+        self.sheet.ordinates.push(y);
+        self.slopes.push(m);
+        self.curvatures.push(c);
+    }
+}
+
+/// Gaps that keep to the limit: all narrow, all widest, alike, from narrow to wide, in turn.
+fn gaps(random: &mut Random, count: usize) -> Vec<u16> {
+    let widest = i64::from(WIDEST_GAP);
+    let alike = random.within(1, widest) as u16;
+    let shape = random.below(6);
+    let one = |i: usize, random: &mut Random| match shape {
+        0 => 1,
+        1 => WIDEST_GAP,
+        2 => alike,
+        3 => random.within(1, 8) as u16,
+        4 => [1, WIDEST_GAP][i % 2],
+        _ => random.within(1, widest) as u16,
+    };
+    (0..count).map(|i| one(i, random)).collect()
+}
+
+/// A first minute for a sheet of this span: 0, the last that fits, or any.
+fn first_minute(random: &mut Random, span: u16) -> u16 {
+    let last = u16::MAX - span;
+    match random.below(4) {
+        0 => 0,
+        1 => last,
+        _ => random.within(0, last.into()) as u16,
+    }
+}
+
+/// Ordinates within the limit: a walk, a line, a parabola, or anything.
+fn ordinates(random: &mut Random, minutes: &[u16]) -> Vec<i16> {
+    let limit = i64::from(ORDINATE_LIMIT);
+    let shape = random.below(8);
+    let steep = random.pick(&[1, 5, 20, 60, 200]);
+    let (tilt, bend) = (random.within(-260, 260), random.within(-130, 130));
+    let mut walk = random.within(-limit / 2, limit / 2);
+    let start = walk;
+    let mut one = |i: usize| {
+        let gap = if i == 0 { 0 } else { i64::from(minutes[i].wrapping_sub(minutes[i - 1])) };
+        let x = i64::from(minutes[i].wrapping_sub(minutes[0]));
+        walk += random.within(-steep * gap, steep * gap);
+        let number = match shape {
+            0 => start + tilt * x,
+            1 => start + bend * x * x / 16,
+            2 => random.within(-limit, limit),
+            3 => random.pick(&[-limit, limit]),
+            _ => walk,
+        };
+        number.clamp(-limit, limit) as i16
+    };
+    (0..minutes.len()).map(&mut one).collect()
+}
+
+/// A sheet that keeps to every limit but perhaps the number of knots.
+pub fn sheet(random: &mut Random, n: usize) -> Sheet {
+    let gaps = gaps(random, n.saturating_sub(1));
+    let mut minute = first_minute(random, gaps.iter().sum());
+    let mut minutes: Vec<u16> = Vec::new();
+    for i in 0..n {
+        if i > 0 {
+            minute += gaps[i - 1];
+        }
+        minutes.push(minute);
+    }
+    let ordinates = ordinates(random, &minutes);
+    Sheet { minutes, ordinates }
+}
+
+/// Spoils one knot: an equal or falling minute, a gap past the limit, an ordinate at or past its limit.
+pub fn spoil(random: &mut Random, sheet: &mut Sheet) {
+    if sheet.minutes.is_empty() {
+        return;
+    }
+    let i = random.below(sheet.minutes.len());
+    let before = sheet.minutes[i.saturating_sub(1)];
+    match random.below(7) {
+        0 => sheet.minutes[i] = before,
+        1 => sheet.minutes[i] = before.wrapping_sub(random.within(1, 3) as u16),
+        2 => {
+            let shift = before.wrapping_add(WIDEST_GAP + 1).wrapping_sub(sheet.minutes[i]);
+            sheet.minutes[i..].iter_mut().for_each(|minute| *minute = minute.wrapping_add(shift));
+        }
+        3 => sheet.minutes[i] = random.next() as u16,
+        4 => sheet.ordinates[i] = random.pick(&[ORDINATE_LIMIT, -ORDINATE_LIMIT]),
+        5 => sheet.ordinates[i] = random.pick(&[ORDINATE_LIMIT + 1, -ORDINATE_LIMIT - 1]),
+        _ => sheet.ordinates[i] = random.pick(&[i16::MIN, i16::MAX]),
+    }
+}
+
+/// Given numbers about every edge: the limit, what is no number, what is hardly one, and halves of card units.
+pub fn given_numbers() -> Vec<f64> {
+    let half_unit = 0.5 / 4096.0;
+    let mut sizes = vec![
+        0.0,
+        256.0,
+        256.0f64.next_up(),
+        256.0f64.next_down(),
+        f64::INFINITY,
+        f64::NAN,
+        f64::from_bits(0x7FF0_0000_0000_0001),
+        f64::from_bits(1),
+        f64::MIN_POSITIVE,
+        f64::MIN_POSITIVE.next_down(),
+        f64::MAX,
+        1.0 / 3.0,
+        255.9,
+    ];
+    for halves in [1.0, 2.0, 3.0, 5.0, 7.0, 1_001.0, 1_003.0, 2_097_151.0] {
+        let tie: f64 = halves * half_unit;
+        sizes.extend([tie, tie.next_up(), tie.next_down()]);
+    }
+    sizes.iter().flat_map(|&size| [size, -size]).collect()
+}
+
+/// An end of this code with numbers that are mostly sound.
+pub fn end(random: &mut Random, code: u16, specials: &[f64]) -> End {
+    let mut number = || match random.below(12) {
+        0 => random.pick(specials),
+        1 => random.within(-2_097_152, 2_097_152) as f64 / 8192.0,
+        2 => random.within(-256_000, 256_000) as f64 / 1000.0,
+        _ => random.within(-5000, 5000) as f64 / 1000.0,
+    };
+    End { code, slope: number(), curvature: number() }
+}
+
+/// A card fitted by the reference, of n knots and these end codes.
+pub fn fitted(random: &mut Random, n: usize, left: u16, right: u16) -> Numbers {
+    loop {
+        let sheet = sheet(random, n);
+        let mut given =
+            |code| End { code, slope: random.within(-3000, 3000) as f64 / 700.0, curvature: random.within(-500, 500) as f64 / 900.0 };
+        let (left, right) = (given(left), given(right));
+        let (mut slopes, mut curvatures) = (vec![0; n], vec![0; n]);
+        if reference::fit_ends(&sheet.minutes, &sheet.ordinates, &mut slopes, &mut curvatures, left, right).is_ok() {
+            return Numbers { sheet, slopes, curvatures, left: left.code, right: right.code };
+        }
+    }
+}
+
+/// Document 01's card of Table 3.
+pub fn table_3() -> Numbers {
+    let sheet = Sheet { minutes: vec![0, 8, 16, 24, 32], ordinates: vec![500, 0, 500, 0, 500] };
+    let (mut slopes, mut curvatures) = (vec![0; 5], vec![0; 5]);
+    let fit = reference::fit_ends(&sheet.minutes, &sheet.ordinates, &mut slopes, &mut curvatures, FREE, FREE);
+    assert_eq!(fit, Ok(()));
+    Numbers { sheet, slopes, curvatures, left: 0, right: 0 }
+}
+
+/// Document 01's card of P7.
+pub fn p7() -> Numbers {
+    Numbers {
+        sheet: Sheet { minutes: vec![0, 2, 4], ordinates: vec![0, 1, 2] },
+        slopes: vec![2048; 3],
+        curvatures: vec![0; 3],
+        left: 0,
+        right: 0,
+    }
+}
+
+/// Card numbers mostly at their limits, one in a while past it: refused for jumps as a rule, and a hard test of the widths.
+pub fn extreme(random: &mut Random, n: usize) -> Numbers {
+    let limit = CARD_NUMBER_LIMIT;
+    let mut sheet = sheet(random, n);
+    if random.once_in(2) {
+        sheet.ordinates.iter_mut().for_each(|y| *y = random.pick(&[ORDINATE_LIMIT, -ORDINATE_LIMIT]));
+    }
+    let mut number =
+        || if random.once_in(6) { random.within(-i64::from(limit), limit.into()) as i32 } else { random.pick(&[limit, -limit]) };
+    let mut slopes: Vec<i32> = (0..n).map(|_| number()).collect();
+    let mut curvatures: Vec<i32> = (0..n).map(|_| number()).collect();
+    let past = random.pick(&[limit + 1, -limit - 1, i32::MAX, i32::MIN]);
+    match random.below(8) {
+        0 => slopes[random.below(n)] = past,
+        1 => curvatures[random.below(n)] = past,
+        _ => {}
+    }
+    Numbers { sheet, slopes, curvatures, left: random.below(3) as u16, right: random.below(3) as u16 }
+}
+
+/// Three knots with large numbers that do not jump: a card alike on both sides of its middle (turned over at the middle
+/// or not), its middle number taken so that the one equation left holds.
+pub fn large_and_sound(random: &mut Random) -> Option<Numbers> {
+    let h = random.pick(&[1, 2, 15, 30, i64::from(WIDEST_GAP) - 1, i64::from(WIDEST_GAP)]);
+    let (ordinate, card) = (i64::from(ORDINATE_LIMIT), i64::from(CARD_NUMBER_LIMIT));
+    let turned = random.once_in(2);
+    let mut large = |limit: i64| if random.once_in(2) { random.pick(&[limit, -limit]) } else { random.within(-limit, limit) };
+    let (next_y, next_m, next_c) = (large(ordinate), large(card), large(card));
+    let y = if turned { 0 } else { large(ordinate) };
+    let d = 4096 * (next_y - y);
+    // Turned over, the fourth must be 0 with M = 0, which gives m; else the third must be 0 with m = 0, which gives M.
+    let (m, c) = if turned {
+        ((30 * d - 14 * next_m * h + 2 * next_c * h * h) / (16 * h), 0)
+    } else {
+        (0, (20 * d - 8 * next_m * h + next_c * h * h) / (3 * h * h))
+    };
+    if m.abs() > card || c.abs() > card {
+        return None;
+    }
+    let sign = if turned { -1 } else { 1 };
+    let start = random.pick(&[0, 65_535 - 2 * h, 1000]);
+    let sheet = Sheet { minutes: vec![], ordinates: vec![] };
+    let mut numbers = Numbers { sheet, slopes: vec![], curvatures: vec![], left: 1, right: 1 };
+    numbers.knot(start as u16, (sign * next_y) as i16, (-sign * next_m) as i32, (sign * next_c) as i32);
+    numbers.knot((start + h) as u16, y as i16, m as i32, c as i32);
+    numbers.knot((start + 2 * h) as u16, next_y as i16, next_m as i32, next_c as i32);
+    Some(numbers)
+}
+
+/// The next knot's slope and curvature so that neither order jumps at this one, as near as whole numbers go.
+fn carried_on(before: Knot, knot: Knot, x: i128, y: i128) -> (i128, i128) {
+    let h = x - knot.x;
+    let left = reference::left_side(before, knot);
+    let p = knot.x - before.x;
+    // 20D − 12mh − 8m′h − 3Mh² + M′h² = third, −30D + (16m+14m′)h + (3M−2M′)h² = fourth; third and fourth cleared by p alone.
+    let d = 4096 * (y - knot.y);
+    let third = reference::nearest_even(left.third * h.pow(3), p.pow(3)) - 20 * d + 12 * knot.m * h + 3 * knot.c * h * h;
+    let fourth = reference::nearest_even(left.fourth * h.pow(4), p.pow(4)) + 30 * d - 16 * knot.m * h - 3 * knot.c * h * h;
+    let m = reference::nearest_even(-(fourth + 2 * third), 2 * h);
+    (m, reference::nearest_even(third + 8 * m * h, h * h))
+}
+
+/// A card carried on from two knots with any numbers, to four or five knots: large numbers in an accepted card.
+pub fn carried(random: &mut Random, n: usize) -> Option<Numbers> {
+    let (ordinate, card) = (i64::from(ORDINATE_LIMIT), i64::from(CARD_NUMBER_LIMIT));
+    let mut sheet = sheet(random, n);
+    let share = random.pick(&[1, 4, 64, 1024]);
+    let mut knots: Vec<Knot> = Vec::new();
+    for i in 0..n {
+        let x = i128::from(sheet.minutes[i]);
+        let y = i128::from(random.within(-ordinate / share, ordinate / share));
+        let (m, c) = if i < 2 {
+            (random.within(-card / share, card / share).into(), random.within(-card / share, card / share).into())
+        } else {
+            carried_on(knots[i - 2], knots[i - 1], x, y)
+        };
+        if m.abs() > card.into() || c.abs() > card.into() {
+            return None;
+        }
+        knots.push(Knot { x, y, m, c });
+    }
+    sheet.ordinates = knots.iter().map(|knot| knot.y as i16).collect();
+    let slopes = knots.iter().map(|knot| knot.m as i32).collect();
+    let curvatures = knots.iter().map(|knot| knot.c as i32).collect();
+    Some(Numbers { sheet, slopes, curvatures, left: 1, right: 1 })
+}
+
+/// Steps one slope or curvature of an accepted card away until the card is refused: the last card accepted and the
+/// first refused.
+pub fn about_the_allowance(numbers: &Numbers, place: usize, slope: bool, step: i32) -> (Numbers, Numbers) {
+    let mut within = numbers.clone();
+    loop {
+        let mut past = within.clone();
+        let number = if slope { &mut past.slopes[place] } else { &mut past.curvatures[place] };
+        *number += step;
+        if !past.accepted() {
+            return (within, past);
+        }
+        within = past;
+    }
+}
+
+/// A sheet with two ends that the reference fits.
+pub fn fitted_ends(random: &mut Random, n: usize, left: u16, right: u16) -> (Sheet, [End; 2]) {
+    loop {
+        let sheet = sheet(random, n);
+        let ends = [left, right].map(|code| end(random, code, &[0.0]));
+        let (mut slopes, mut curvatures) = (vec![0; n], vec![0; n]);
+        if reference::fit_ends(&sheet.minutes, &sheet.ordinates, &mut slopes, &mut curvatures, ends[0], ends[1]).is_ok() {
+            return (sheet, ends);
+        }
+    }
+}
+
+/// Which given number of which end is turned, and which number of the fit is looked at.
+#[derive(Clone, Copy)]
+pub struct Turn {
+    pub right: bool,
+    pub slope: bool,
+    pub place: usize,
+    pub row: usize,
+}
+
+/// The ends with the one given number made this.
+pub fn turned(mut ends: [End; 2], turn: Turn, given: f64) -> [End; 2] {
+    let end = &mut ends[usize::from(turn.right)];
+    *(if turn.slope { &mut end.slope } else { &mut end.curvature }) = given;
+    ends
+}
+
+/// The last of the given numbers at which the fit's number still rounds as it does now, its neighbour rounding otherwise: there
+/// 4096·u stands at a half, so that a single operation rounded in another way shows in the card.
+pub fn about_a_half(sheet: &Sheet, ends: [End; 2], turn: Turn) -> Option<f64> {
+    let rounded = |given: f64| {
+        let [left, right] = turned(ends, turn, given);
+        let pairs = reference::eliminate(&sheet.minutes, &sheet.ordinates, left, right).ok()?;
+        Some(reference::card_units(pairs[turn.place][turn.row]))
+    };
+    let end = ends[usize::from(turn.right)];
+    let mut same = if turn.slope { end.slope } else { end.curvature };
+    let now = rounded(same)?;
+    let mut other = [1.0 / 4096.0, 1.0 / 64.0, 1.0].iter().map(|step| same + step).find(|&given| rounded(given) != Some(now))?;
+    loop {
+        let middle = same + (other - same) / 2.0;
+        if middle <= same || middle >= other {
+            return Some(same);
+        }
+        if rounded(middle) == Some(now) {
+            same = middle;
+        } else {
+            other = middle;
+        }
+    }
+}

@@ -1,0 +1,362 @@
+//! The inputs to compare on, in groups; the same in every run.
+
+use crate::compare::{self, Tally};
+use crate::curves::{self, Numbers, Sheet, Turn};
+use crate::random::Random;
+use crate::reference::{card_size, End, FREE, LONGEST_LOG, MOST_KNOTS, WIDEST_GAP};
+use std::time::Instant;
+
+const CODES: [u16; 3] = [0, 1, 2];
+
+/// The nine mixes of ends.
+fn mixes() -> Vec<[u16; 2]> {
+    CODES.iter().flat_map(|&left| CODES.map(|right| [left, right])).collect()
+}
+
+/// Logs of every length from 0 to one too many, each byte value alone, among good bytes and among faults.
+fn logs(tally: &mut Tally, random: &mut Random) {
+    for length in 0..=LONGEST_LOG + 1 {
+        for byte in 0..=255 {
+            compare::mean(tally, random.next() as u16, &vec![byte; length]);
+            for filling in [None, Some(255), Some(0), Some(200)] {
+                let mut log: Vec<u8> = (0..length).map(|_| filling.unwrap_or_else(|| random.below(201) as u8)).collect();
+                if length > 0 {
+                    log[random.below(length)] = byte;
+                }
+                compare::mean(tally, random.next() as u16, &log);
+            }
+        }
+        for _ in 0..400 {
+            let byte = |random: &mut Random| if random.once_in(3) { 255 } else { random.within(0, 200) as u8 };
+            let mut log: Vec<u8> = (0..length).map(|_| byte(random)).collect();
+            if random.once_in(4) {
+                log.iter_mut().for_each(|byte| *byte = if *byte == 255 { 255 } else { *byte % 2 });
+            }
+            if random.once_in(8) && length > 0 {
+                log[random.below(length)] = random.within(200, 255) as u8;
+            }
+            compare::mean(tally, random.pick(&[0, 1, 65_535]), &log);
+        }
+    }
+}
+
+/// Fits of 0 to 66 knots, all mixes of ends, sound sheets and spoilt ones.
+fn fits(tally: &mut Tally, random: &mut Random) {
+    let specials = curves::given_numbers();
+    for n in 0..=MOST_KNOTS + 2 {
+        for [left, right] in mixes() {
+            for turn in 0..160 {
+                let mut sheet = curves::sheet(random, n);
+                for _ in 0..(turn % 4) {
+                    curves::spoil(random, &mut sheet);
+                }
+                let ends = [curves::end(random, left, &specials), curves::end(random, right, &specials)];
+                compare::fit_ends(tally, &sheet.minutes, &sheet.ordinates, [n, n], ends[0], ends[1]);
+                if turn < 40 {
+                    compare::fit(tally, &sheet.minutes, &sheet.ordinates, [n, n]);
+                }
+            }
+        }
+    }
+}
+
+/// Every given number at every slot of every mix of ends, and codes that are none.
+fn given(tally: &mut Tally, random: &mut Random) {
+    let specials = curves::given_numbers();
+    let flat = Sheet { minutes: vec![0, 1, 2], ordinates: vec![0; 3] };
+    let steep = Sheet { minutes: vec![7, 8, 9, 10], ordinates: vec![-384, -128, 128, 384] };
+    let others: Vec<Sheet> = [3, 4, 7, 64].iter().map(|&n| curves::sheet(random, n)).collect();
+    for sheet in [flat, steep].iter().chain(&others) {
+        let n = sheet.minutes.len();
+        for left in [0, 1, 2, 3, 65_535] {
+            for right in [0, 1, 2, 3, 65_535] {
+                for &number in &specials {
+                    for slot in 0..4 {
+                        let mut given = [0.0; 4];
+                        given[slot] = number;
+                        let left = End { code: left, slope: given[0], curvature: given[1] };
+                        let right = End { code: right, slope: given[2], curvature: given[3] };
+                        compare::fit_ends(tally, &sheet.minutes, &sheet.ordinates, [n, n], left, right);
+                    }
+                }
+            }
+        }
+    }
+}
+
+/// Fits of which one number stands at a half before it is rounded: given numbers on both sides, near and a little further off.
+fn halves(tally: &mut Tally, random: &mut Random) {
+    let given_codes = [[1, 0], [2, 0], [0, 1], [0, 2], [1, 1], [1, 2], [2, 1], [2, 2]];
+    for count in 0..8_000 {
+        let n = if count % 16 == 0 { random.within(3, 64) } else { random.within(3, 8) } as usize;
+        let [left, right] = random.pick(&given_codes);
+        let (sheet, ends) = curves::fitted_ends(random, n, left, right);
+        let on_right = left == 0 || (right != 0 && random.once_in(2));
+        let slope = ends[usize::from(on_right)].code == 1 && random.once_in(2);
+        let from_the_end = random.below(n.min(5));
+        let place = if on_right { n - 1 - from_the_end } else { from_the_end };
+        let turn = Turn { right: on_right, slope, place, row: random.below(2) };
+        let Some(half) = curves::about_a_half(&sheet, ends, turn) else { continue };
+        for steps in [-1000, -60, -8, -3, -2, -1, 0, 1, 2, 3, 4, 9, 60, 1000] {
+            // Neighbouring floats have neighbouring bits, but for those about 0.
+            let given = f64::from_bits(half.to_bits().wrapping_add_signed(steps));
+            let [left, right] = curves::turned(ends, turn, given);
+            compare::fit_ends(tally, &sheet.minutes, &sheet.ordinates, [n, n], left, right);
+        }
+    }
+}
+
+/// Lists that differ in length, for every function that takes four.
+fn lengths(tally: &mut Tally, random: &mut Random) {
+    let sizes = [0, 2, 3, 4, 64, 65];
+    let sheet = curves::sheet(random, 65);
+    let card = curves::fitted(random, 4, 0, 0).bytes();
+    let spoilt = &card[..card.len() - 1];
+    let zeros = [0; 65];
+    for choice in 0..sizes.len().pow(4) {
+        let [a, b, c, d] = [1, 6, 36, 216].map(|power| sizes[choice / power % 6]);
+        let (minutes, ordinates) = (&sheet.minutes[..a], &sheet.ordinates[..b]);
+        compare::fit(tally, minutes, ordinates, [c, d]);
+        let code = random.pick(&[0, 1, 2, 3]);
+        compare::fit_ends(tally, minutes, ordinates, [c, d], End { code, slope: f64::NAN, curvature: 0.0 }, FREE);
+        compare::write(tally, minutes, ordinates, &zeros[..c], &zeros[..d], [code, 0], random.pick(&[0, 62, 78, 1038]));
+        compare::read(tally, &card, [a, b, c, d]);
+        compare::read(tally, spoilt, [a, b, c, d]);
+    }
+}
+
+/// One spoilt or sound card, by all that reads cards.
+fn card(tally: &mut Tally, random: &mut Random, bytes: &[u8]) {
+    compare::check(tally, bytes);
+    let places = random.pick(&[0, 2, 3, 5, 63, 64, 66]);
+    compare::read(tally, bytes, [places; 4]);
+    let minute = if bytes.len() > 16 { u16::from_le_bytes([bytes[14], bytes[15]]) } else { 0 };
+    compare::reading(tally, bytes, minute.wrapping_add(random.within(0, 6) as u16));
+}
+
+/// Every change of one byte: all 255 other values, or some of them.
+fn changed_bytes(tally: &mut Tally, random: &mut Random, bytes: &[u8], all: bool) {
+    let mut changed = bytes.to_vec();
+    for at in 0..bytes.len() {
+        for other in 1..=255u8 {
+            if all || other.is_power_of_two() || random.once_in(40) {
+                changed[at] = bytes[at] ^ other;
+                if all {
+                    compare::check(tally, &changed);
+                } else {
+                    card(tally, random, &changed);
+                }
+            }
+        }
+        changed[at] = bytes[at];
+    }
+}
+
+/// Every truncation, and extensions by zeros, by ones, by the card itself and by its closing record.
+fn cut_and_extended(tally: &mut Tally, random: &mut Random, bytes: &[u8]) {
+    for length in 0..bytes.len() {
+        card(tally, random, &bytes[..length]);
+    }
+    for behind in [vec![0; 40], vec![255; 40], bytes.to_vec(), bytes[bytes.len() - 4..].to_vec()] {
+        for length in 1..=behind.len() {
+            card(tally, random, &[bytes, &behind[..length]].concat());
+        }
+    }
+}
+
+/// Heads that lie about what follows, and several changes at once.
+fn changed_records(tally: &mut Tally, random: &mut Random, bytes: &[u8]) {
+    for n in 0..=MOST_KNOTS as u16 + 2 {
+        let mut changed = bytes.to_vec();
+        changed[4..6].copy_from_slice(&n.to_le_bytes());
+        card(tally, random, &changed);
+    }
+    for _ in 0..400 {
+        let mut changed = bytes.to_vec();
+        for _ in 0..random.within(2, 4) {
+            let record = if random.once_in(3) { 0 } else { 10 + 16 * random.below((bytes.len() - 10) / 16 + 1) };
+            let at = (record + 2 * random.below(8)).min(bytes.len() - 2);
+            let number: u16 = random.pick(&[0, 1, 2, 3, 4, 6, 12, 16, 60, 61, 255, 256, 20_000, 20_001, 45_535, 45_536, 65_535]);
+            changed[at..at + 2].copy_from_slice(&number.to_le_bytes());
+        }
+        if random.once_in(4) {
+            changed.truncate(random.below(bytes.len()));
+        }
+        card(tally, random, &changed);
+    }
+}
+
+fn card_bytes(tally: &mut Tally, random: &mut Random) {
+    let mut few = vec![curves::table_3(), curves::p7()];
+    few.extend([[0, 0], [1, 2], [2, 1]].map(|[left, right]| curves::fitted(random, 3, left, right)));
+    few.push(curves::fitted(random, 12, 0, 2));
+    for numbers in &few {
+        changed_bytes(tally, random, &numbers.bytes(), true);
+    }
+    let mut more = few;
+    for [left, right] in mixes() {
+        for n in [3, 4, 9, 64] {
+            more.push(curves::fitted(random, n, left, right));
+        }
+    }
+    for numbers in &more {
+        let bytes = numbers.bytes();
+        changed_bytes(tally, random, &bytes, false);
+        cut_and_extended(tally, random, &bytes);
+        changed_records(tally, random, &bytes);
+    }
+    for length in 0..1200 {
+        let noise: Vec<u8> = (0..length).map(|_| random.next() as u8).collect();
+        card(tally, random, &noise);
+    }
+}
+
+/// One card by reader, writer and readings.
+fn whole_card(tally: &mut Tally, random: &mut Random, numbers: &Numbers) {
+    let n = numbers.slopes.len();
+    let bytes = numbers.bytes();
+    compare::check(tally, &bytes);
+    for places in [n - 1, n, n + 1, 66] {
+        compare::read(tally, &bytes, [places; 4]);
+    }
+    let size = card_size(n);
+    let Sheet { minutes, ordinates } = &numbers.sheet;
+    for length in [0, 1, size - 1, size, size + 1, size + random.below(200)] {
+        compare::write(tally, minutes, ordinates, &numbers.slopes, &numbers.curvatures, [numbers.left, numbers.right], length);
+    }
+}
+
+/// Fitted cards of every number of knots and every mix, read at every minute.
+fn readings(tally: &mut Tally, random: &mut Random) {
+    for n in 3..=MOST_KNOTS {
+        for [left, right] in mixes() {
+            let numbers = curves::fitted(random, n, left, right);
+            whole_card(tally, random, &numbers);
+            if n < 12 || random.once_in(3) {
+                compare::readings(tally, &numbers.bytes());
+            }
+        }
+    }
+    for gap in 1..=WIDEST_GAP {
+        for _ in 0..6 {
+            let other = random.within(1, WIDEST_GAP.into()) as u16;
+            let minutes = vec![5, 5 + gap, 5 + gap + other];
+            let ordinates = minutes.iter().map(|&x| 3 * x as i16 - 7).collect();
+            let sheet = Sheet { minutes, ordinates };
+            let numbers = Numbers { sheet, slopes: vec![3 * 4096; 3], curvatures: vec![0; 3], left: 0, right: 0 };
+            whole_card(tally, random, &numbers);
+            for place in 0..3 {
+                for (slope, step) in [(true, 1), (true, -1), (false, 1), (false, -1)] {
+                    let (within, _) = curves::about_the_allowance(&numbers, place, slope, step);
+                    compare::readings(tally, &within.bytes());
+                }
+            }
+        }
+    }
+}
+
+/// Fitted cards with slopes and curvatures moved until they jump: the last card accepted and the first refused, for each
+/// number of the card, then several numbers moved a little at once.
+fn near_the_allowance(tally: &mut Tally, random: &mut Random) {
+    for turn in 0..40 {
+        for [left, right] in mixes() {
+            let n = if turn % 10 == 0 { random.within(3, 64) } else { random.within(3, 9) } as usize;
+            let numbers = curves::fitted(random, n, left, right);
+            for place in 0..n {
+                for (slope, step) in [(true, 1), (true, -1), (false, 1), (false, -1)] {
+                    let (within, past) = curves::about_the_allowance(&numbers, place, slope, step);
+                    for sides in [&within, &past] {
+                        compare::check(tally, &sides.bytes());
+                        let Sheet { minutes, ordinates } = &sides.sheet;
+                        let codes = [sides.left, sides.right];
+                        compare::write(tally, minutes, ordinates, &sides.slopes, &sides.curvatures, codes, card_size(n));
+                        for [left, right] in mixes() {
+                            compare::check(tally, &Numbers { left, right, ..sides.clone() }.bytes());
+                        }
+                    }
+                }
+            }
+            for _ in 0..60 {
+                let mut moved = numbers.clone();
+                let most = random.pick(&[1, 2, 4, 8]);
+                for _ in 0..random.within(1, 5) {
+                    moved.slopes[random.below(n)] += random.within(-most, most) as i32;
+                    moved.curvatures[random.below(n)] += random.within(-most, most) as i32;
+                }
+                let bytes = moved.bytes();
+                compare::check(tally, &bytes);
+                if n < 6 {
+                    compare::readings(tally, &bytes);
+                }
+            }
+        }
+    }
+}
+
+/// Cards at and past the limits: wild ones, and large ones that are sound.
+fn limits(tally: &mut Tally, random: &mut Random) {
+    for _ in 0..30_000 {
+        let n = if random.once_in(8) { random.within(3, 64) } else { random.within(3, 6) } as usize;
+        let mut numbers = curves::extreme(random, n);
+        if random.once_in(6) {
+            curves::spoil(random, &mut numbers.sheet);
+        }
+        card(tally, random, &numbers.bytes());
+        let Sheet { minutes, ordinates } = &numbers.sheet;
+        let length = card_size(n) + random.below(3) - 1;
+        let codes = [random.pick(&[0, 1, 2, 3]), random.pick(&[0, 1, 2, 65_535])];
+        compare::write(tally, minutes, ordinates, &numbers.slopes, &numbers.curvatures, codes, length);
+    }
+    for turn in 0..6_000 {
+        let made = if turn % 2 == 0 { curves::large_and_sound(random) } else { curves::carried(random, 3 + turn / 2 % 3) };
+        if let Some(numbers) = made {
+            whole_card(tally, random, &numbers);
+            compare::readings(tally, &numbers.bytes());
+        }
+    }
+}
+
+/// Writers of 0 to 66 knots, with codes that are none.
+fn writers(tally: &mut Tally, random: &mut Random) {
+    for n in 0..=MOST_KNOTS + 2 {
+        for _ in 0..300 {
+            let mut sheet = curves::sheet(random, n);
+            let (mut slopes, mut curvatures) = (vec![0; n], vec![0; n]);
+            let _ = crate::reference::fit(&sheet.minutes, &sheet.ordinates, &mut slopes, &mut curvatures);
+            for _ in 0..random.below(3) {
+                curves::spoil(random, &mut sheet);
+            }
+            let codes = [random.pick(&[0, 0, 1, 2, 3]), random.pick(&[0, 0, 1, 2, 65_535])];
+            let length = card_size(n) + random.pick(&[0, 0, 1, 50]) - random.pick(&[0, 0, 1, 14]);
+            compare::write(tally, &sheet.minutes, &sheet.ordinates, &slopes, &curvatures, codes, length);
+        }
+    }
+}
+
+type Group = fn(&mut Tally, &mut Random);
+
+/// Runs every group, prints the numbers, and says whether nothing differed.
+pub fn all() -> bool {
+    let groups: [(&str, Group); 10] = [
+        ("logs", logs),
+        ("fits", fits),
+        ("given numbers", given),
+        ("fits at a half", halves),
+        ("lists of unequal lengths", lengths),
+        ("writers", writers),
+        ("bytes of cards", card_bytes),
+        ("readings", readings),
+        ("near the allowance", near_the_allowance),
+        ("limits", limits),
+    ];
+    let mut tally = Tally::default();
+    for (seed, (name, group)) in groups.iter().enumerate() {
+        let (before, start) = (tally.comparisons, Instant::now());
+        group(&mut tally, &mut Random::new(seed as u64));
+        println!("{name}: {} comparisons in {:.1} s", tally.comparisons - before, start.elapsed().as_secs_f64());
+    }
+    let met: Vec<String> = (0..32).filter(|&i| tally.numbers[i] > 0).map(|i| format!("{i}: {}", tally.numbers[i])).collect();
+    println!("answers by number: {}", met.join(", "));
+    println!("{} comparisons, {} differences", tally.comparisons, tally.differences);
+    tally.differences == 0
+}

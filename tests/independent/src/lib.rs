@@ -1,0 +1,15 @@
+//! An outside check of the kaihveto library: document 01 written a second time (`reference`), the library's own
+//! functions (`boundary`), and the comparison of the two (`compare`). Nothing here is shared with the library.
+
+#[cfg(linked)]
+pub mod boundary;
+#[cfg(test)]
+mod cases;
+#[cfg(linked)]
+pub mod compare;
+pub mod curves;
+#[cfg(linked)]
+pub mod groups;
+pub mod random;
+pub mod reference;
+pub mod vectors;

@@ -1,0 +1,41 @@
+//! Without words: compares the library with the reference on many inputs, and ends with 1 where they differ.
+//! `vectors DIR`: runs the reference alone on the vectors of the two programs.
+
+use std::path::Path;
+use std::process::ExitCode;
+
+#[cfg(linked)]
+fn compare() -> bool {
+    independent::groups::all()
+}
+
+#[cfg(not(linked))]
+fn compare() -> bool {
+    eprintln!("no libkaihveto.a was found when this was built: run `rt staticlib kaihveto`, or name its folder in KAIHVETO_LIB");
+    false
+}
+
+fn vectors(folder: &str) -> bool {
+    independent::vectors::run(Path::new(folder)).unwrap_or_else(|error| {
+        eprintln!("{folder}: {error}");
+        false
+    })
+}
+
+fn main() -> ExitCode {
+    let words: Vec<String> = std::env::args().skip(1).collect();
+    let words: Vec<&str> = words.iter().map(String::as_str).collect();
+    let good = match words[..] {
+        [] => compare(),
+        ["vectors", folder] => vectors(folder),
+        _ => {
+            eprintln!("usage: independent [vectors DIR]");
+            return ExitCode::from(2);
+        }
+    };
+    if good {
+        ExitCode::SUCCESS
+    } else {
+        ExitCode::FAILURE
+    }
+}
