@@ -10,30 +10,14 @@ use Rattle.card_bytes.specs.Records.{due}
 use borrow.Author.Needs.{needs}
 use Rattle.card_bytes.proofs.due.Statement.{statement}
 use Rattle.card_bytes.proofs.due.Tie as tie
-use Rattle.card_bytes.proofs.due.Reads as reads
-use Rattle.card_bytes.proofs.due.Lts as lts
-use Rattle.record.proofs.Cursor.new.Reads as new-reads
-use Rattle.record.proofs.Cursor.read.Reads as read-reads
 
 lacking : (c : tie.After-known-told) → (let a = c .before .before .before .before .before .before .args in Missing (now (a .list)) (a .at) (a .kind) (a .length) (c .before .place .given .0 .0))
 lacking c =
     let e = c .before .before .before in
     missing _ _ _ _ (rw (e .before .new .ensures) at (e .read .ensures)) (c .before .place .given .1)
 
-new-requires : tie.Need-new-requires
-new-requires c κs = search needs
-
-read-requires : tie.Need-read-requires
-read-requires c κs = search needs
-
-enum-known-place : tie.Need-enum-known-place
-enum-known-place c = search needs
-
 cast-t9 : tie.Need-cast-t9
 cast-t9 c = let m = lacking c in let l : c .before .before .before .before .before .before .args .at < 2 ^ 32 = c .before .before .before .before .before .before .pre in omega (arith, m .offset)
-
-enum-told : tie.Need-enum-told
-enum-told c = search needs
 
 returns : tie.Need-returns
 unfolding due refuse
@@ -48,4 +32,4 @@ returns-2 c =
 pub due-spec : {M : Type 1} → statement M
 due-spec =
     tie.close
-    (tie.spec new-requires read-requires enum-known-place cast-t9 enum-told returns returns-2)
+    (tie.spec (λ c κs. search needs) (λ c κs. search needs) (λ c. search needs) cast-t9 (λ c. search needs) returns returns-2)

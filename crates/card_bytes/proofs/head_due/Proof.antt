@@ -4,16 +4,10 @@ use Rattle.card_bytes.specs.Records.{head-due}
 use borrow.Author.Needs.{needs}
 use Rattle.card_bytes.proofs.head_due.Statement.{statement}
 use Rattle.card_bytes.proofs.head_due.Tie as tie
-use Rattle.card_bytes.proofs.head_due.Reads as reads
-use Rattle.card_bytes.proofs.head_due.Lts as lts
-use Rattle.card_bytes.proofs.due.Reads as due-reads
-
-due-requires : tie.Need-due-requires
-due-requires c κs = search needs
 
 returns : tie.Need-returns
 unfolding head-due
 returns c = c .due .ensures
 
 pub head-due-spec : {M : Type 1} → statement M
-head-due-spec = tie.close (tie.spec due-requires returns)
+head-due-spec = tie.close (tie.spec (λ c κs. search needs) returns)

@@ -8,9 +8,6 @@ use Rattle.card_bytes.specs.Records.{knot-due}
 use borrow.Author.Needs.{needs}
 use Rattle.card_bytes.proofs.knots_due.Statement.{statement}
 use Rattle.card_bytes.proofs.knots_due.Tie as tie
-use Rattle.card_bytes.proofs.knots_due.Reads as reads
-use Rattle.card_bytes.proofs.knots_due.Lts as lts
-use Rattle.card_bytes.proofs.due.Reads as due-reads
 
 abbrev Inv-loop : tie.InvT-loop
 Inv-loop list n i₀ i = Rest (knot-due list) n i
@@ -21,32 +18,11 @@ abbrev μ-loop : tie.MeasureT-loop
 loop-holds : tie.Need-loop-holds Inv-loop μ-loop
 loop-holds c = rest-starts
 
-mul-due : tie.Need-mul-due Inv-loop μ-loop
-mul-due c = search needs
-
-add-due : tie.Need-add-due Inv-loop μ-loop
-add-due c = search needs
-
-due-requires : tie.Need-due-requires Inv-loop μ-loop
-due-requires c κs = search needs
-
-enum-known-number : tie.Need-enum-known-number Inv-loop μ-loop
-enum-known-number c = search needs
-
 returns : tie.Need-returns Inv-loop μ-loop
 unfolding knot-due
 returns c =
     let l = c .before .before .before .before .before in
     rest-stops (l .loop .inv) (c .before .before .before .before .loop-test .taken) (sym (c .before .before .before .due .ensures) ∙ ap verdict-of (c .before .number .given .1))
-
-enum-told : tie.Need-enum-told Inv-loop μ-loop
-enum-told c = search needs
-
-add-i : tie.Need-add-i Inv-loop μ-loop
-add-i c = search needs
-
-loop-less : tie.Need-loop-less Inv-loop μ-loop
-loop-less c = search needs
 
 loop-again : tie.Need-loop-again Inv-loop μ-loop
 unfolding knot-due
@@ -64,13 +40,13 @@ knots-due-spec =
     Inv-loop
     μ-loop
     loop-holds
-    mul-due
-    add-due
-    due-requires
-    enum-known-number
+    (λ c. search needs)
+    (λ c. search needs)
+    (λ c κs. search needs)
+    (λ c. search needs)
     returns
-    enum-told
-    add-i
-    loop-less
+    (λ c. search needs)
+    (λ c. search needs)
+    (λ c. search needs)
     loop-again
     returns-2)

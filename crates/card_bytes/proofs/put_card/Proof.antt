@@ -19,11 +19,6 @@ use Rattle.card_bytes.proofs.Tables.{rows-more}
 use Rattle.card_bytes.proofs.Sizes.{length-head, length-knots}
 use Rattle.card_bytes.proofs.put_card.Statement.{statement}
 use Rattle.card_bytes.proofs.put_card.Tie as tie
-use Rattle.card_bytes.proofs.put_card.Reads as reads
-use Rattle.card_bytes.proofs.put_card.Lts as lts
-use Rattle.card_bytes.proofs.put_end.Reads as put-end-reads
-use Rattle.card_bytes.proofs.put_head.Reads as put-head-reads
-use Rattle.card_bytes.proofs.put_knot.Reads as put-knot-reads
 
 abbrev Inv-loop : tie.InvT-loop
 Inv-loop head minutes ordinates slopes curvatures left right buffer₀ n i₀ buffer i =
@@ -32,54 +27,9 @@ Inv-loop head minutes ordinates slopes curvatures left right buffer₀ n i₀ bu
 abbrev μ-loop : tie.MeasureT-loop
 μ-loop head minutes ordinates slopes curvatures left right buffer₀ n i₀ buffer i = n - i
 
-cast-put-head : tie.Need-cast-put-head Inv-loop μ-loop
-cast-put-head c = omega arith
-
-put-head-requires : tie.Need-put-head-requires Inv-loop μ-loop
-put-head-requires c κs = omega arith
-
 loop-holds : tie.Need-loop-holds Inv-loop μ-loop
 unfolding rows
 loop-holds c = (omega arith, refl, refl)
-
-mul-put-knot : tie.Need-mul-put-knot Inv-loop μ-loop
-mul-put-knot c = omega arith
-
-add-put-knot : tie.Need-add-put-knot Inv-loop μ-loop
-add-put-knot c = omega arith
-
-mul-put-knot-2 : tie.Need-mul-put-knot-2 Inv-loop μ-loop
-mul-put-knot-2 c = omega arith
-
-shared-slice-read-put-knot : tie.Need-shared-slice-read-put-knot Inv-loop μ-loop
-shared-slice-read-put-knot c = omega arith
-
-mul-put-knot-3 : tie.Need-mul-put-knot-3 Inv-loop μ-loop
-mul-put-knot-3 c = omega arith
-
-shared-slice-copy-out-put-knot : tie.Need-shared-slice-copy-out-put-knot Inv-loop μ-loop
-shared-slice-copy-out-put-knot c = omega arith
-
-mul-put-knot-4 : tie.Need-mul-put-knot-4 Inv-loop μ-loop
-mul-put-knot-4 c = omega arith
-
-shared-slice-copy-out-put-knot-2 : tie.Need-shared-slice-copy-out-put-knot-2 Inv-loop μ-loop
-shared-slice-copy-out-put-knot-2 c = omega arith
-
-mul-put-knot-5 : tie.Need-mul-put-knot-5 Inv-loop μ-loop
-mul-put-knot-5 c = omega arith
-
-shared-slice-copy-out-put-knot-3 : tie.Need-shared-slice-copy-out-put-knot-3 Inv-loop μ-loop
-shared-slice-copy-out-put-knot-3 c = omega arith
-
-put-knot-requires : tie.Need-put-knot-requires Inv-loop μ-loop
-put-knot-requires c κs = omega arith
-
-add-i : tie.Need-add-i Inv-loop μ-loop
-add-i c = omega arith
-
-loop-less : tie.Need-loop-less Inv-loop μ-loop
-loop-less c = omega arith
 
 loop-again : tie.Need-loop-again Inv-loop μ-loop
 unfolding knot-row knot
@@ -97,18 +47,6 @@ loop-again c =
       omega arith,
       rw (rows-more (knot-row k) i) (then (l .before .before .before .put-head .last .0) 10 (rows (knot-row k) 0 i) (knot-row k i) (16 * i) (length-knots k i) (l .loop .inv .2) q),
     )
-
-mul-put-end : tie.Need-mul-put-end Inv-loop μ-loop
-mul-put-end c = omega arith
-
-add-put-end : tie.Need-add-put-end Inv-loop μ-loop
-add-put-end c = omega arith
-
-put-end-requires : tie.Need-put-end-requires Inv-loop μ-loop
-put-end-requires c κs = omega arith
-
-same-length : tie.Need-same-length Inv-loop μ-loop
-same-length c = omega arith
 
 returns : tie.Need-returns Inv-loop μ-loop
 unfolding bytes-of knots
@@ -129,25 +67,25 @@ put-card-spec =
     (tie.spec
     Inv-loop
     μ-loop
-    cast-put-head
-    put-head-requires
+    (λ c. omega arith)
+    (λ c κs. omega arith)
     loop-holds
-    mul-put-knot
-    add-put-knot
-    mul-put-knot-2
-    shared-slice-read-put-knot
-    mul-put-knot-3
-    shared-slice-copy-out-put-knot
-    mul-put-knot-4
-    shared-slice-copy-out-put-knot-2
-    mul-put-knot-5
-    shared-slice-copy-out-put-knot-3
-    put-knot-requires
-    add-i
-    loop-less
+    (λ c. omega arith)
+    (λ c. omega arith)
+    (λ c. omega arith)
+    (λ c. omega arith)
+    (λ c. omega arith)
+    (λ c. omega arith)
+    (λ c. omega arith)
+    (λ c. omega arith)
+    (λ c. omega arith)
+    (λ c. omega arith)
+    (λ c κs. omega arith)
+    (λ c. omega arith)
+    (λ c. omega arith)
     loop-again
-    mul-put-end
-    add-put-end
-    put-end-requires
-    same-length
+    (λ c. omega arith)
+    (λ c. omega arith)
+    (λ c κs. omega arith)
+    (λ c. omega arith)
     returns)

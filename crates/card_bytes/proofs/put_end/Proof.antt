@@ -9,21 +9,6 @@ use Rattle.card_bytes.specs.Bytes.{end-bytes}
 use borrow.Author.Needs.{needs}
 use Rattle.card_bytes.proofs.put_end.Statement.{statement}
 use Rattle.card_bytes.proofs.put_end.Tie as tie
-use Rattle.card_bytes.proofs.put_end.Reads as reads
-use Rattle.card_bytes.proofs.put_end.Lts as lts
-use Rattle.record.proofs.write_u16.Reads as write-u16-reads
-
-write-u16-requires : tie.Need-write-u16-requires
-write-u16-requires c κs = search needs
-
-add-write-u16 : tie.Need-add-write-u16
-add-write-u16 c = search needs
-
-write-u16-requires-2 : tie.Need-write-u16-requires-2
-write-u16-requires-2 c κs = search needs
-
-same-length : tie.Need-same-length
-same-length c = search needs
 
 returns : tie.Need-returns
 unfolding end-bytes header
@@ -33,4 +18,4 @@ returns c =
 
 pub put-end-spec : {M : Type 1} → statement M
 put-end-spec =
-    tie.close (tie.spec write-u16-requires add-write-u16 write-u16-requires-2 same-length returns)
+    tie.close (tie.spec (λ c κs. search needs) (λ c. search needs) (λ c κs. search needs) (λ c. search needs) returns)

@@ -11,27 +11,6 @@ use Rattle.card_bytes.specs.Bytes.{head-bytes}
 use borrow.Author.Needs.{needs}
 use Rattle.card_bytes.proofs.put_head.Statement.{statement}
 use Rattle.card_bytes.proofs.put_head.Tie as tie
-use Rattle.card_bytes.proofs.put_head.Reads as reads
-use Rattle.card_bytes.proofs.put_head.Lts as lts
-use Rattle.record.proofs.write_u16.Reads as write-u16-reads
-
-write-u16-requires : tie.Need-write-u16-requires
-write-u16-requires c κs = search needs
-
-write-u16-requires-2 : tie.Need-write-u16-requires-2
-write-u16-requires-2 c κs = search needs
-
-write-u16-requires-3 : tie.Need-write-u16-requires-3
-write-u16-requires-3 c κs = search needs
-
-write-u16-requires-4 : tie.Need-write-u16-requires-4
-write-u16-requires-4 c κs = search needs
-
-write-u16-requires-5 : tie.Need-write-u16-requires-5
-write-u16-requires-5 c κs = search needs
-
-same-length : tie.Need-same-length
-same-length c = search needs
 
 returns : tie.Need-returns
 unfolding head-bytes header
@@ -53,10 +32,10 @@ pub put-head-spec : {M : Type 1} → statement M
 put-head-spec =
     tie.close
     (tie.spec
-    write-u16-requires
-    write-u16-requires-2
-    write-u16-requires-3
-    write-u16-requires-4
-    write-u16-requires-5
-    same-length
+    (λ c κs. search needs)
+    (λ c κs. search needs)
+    (λ c κs. search needs)
+    (λ c κs. search needs)
+    (λ c κs. search needs)
+    (λ c. search needs)
     returns)

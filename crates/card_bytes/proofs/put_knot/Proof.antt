@@ -14,47 +14,6 @@ use Rattle.card_bytes.specs.Bytes.{knot-bytes}
 use borrow.Author.Needs.{needs}
 use Rattle.card_bytes.proofs.put_knot.Statement.{statement}
 use Rattle.card_bytes.proofs.put_knot.Tie as tie
-use Rattle.card_bytes.proofs.put_knot.Reads as reads
-use Rattle.card_bytes.proofs.put_knot.Lts as lts
-use Rattle.record.proofs.write_i16.Reads as write-i16-reads
-use Rattle.record.proofs.write_i32.Reads as write-i32-reads
-use Rattle.record.proofs.write_u16.Reads as write-u16-reads
-
-write-u16-requires : tie.Need-write-u16-requires
-write-u16-requires c κs = search needs
-
-add-write-u16 : tie.Need-add-write-u16
-add-write-u16 c = search needs
-
-write-u16-requires-2 : tie.Need-write-u16-requires-2
-write-u16-requires-2 c κs = search needs
-
-add-write-u16-2 : tie.Need-add-write-u16-2
-add-write-u16-2 c = search needs
-
-write-u16-requires-3 : tie.Need-write-u16-requires-3
-write-u16-requires-3 c κs = search needs
-
-add-write-i16 : tie.Need-add-write-i16
-add-write-i16 c = search needs
-
-write-i16-requires : tie.Need-write-i16-requires
-write-i16-requires c κs = search needs
-
-add-write-i32 : tie.Need-add-write-i32
-add-write-i32 c = search needs
-
-write-i32-requires : tie.Need-write-i32-requires
-write-i32-requires c κs = search needs
-
-add-write-i32-2 : tie.Need-add-write-i32-2
-add-write-i32-2 c = search needs
-
-write-i32-requires-2 : tie.Need-write-i32-requires-2
-write-i32-requires-2 c κs = search needs
-
-same-length : tie.Need-same-length
-same-length c = search needs
 
 returns : tie.Need-returns
 unfolding knot-bytes header
@@ -82,16 +41,16 @@ pub put-knot-spec : {M : Type 1} → statement M
 put-knot-spec =
     tie.close
     (tie.spec
-    write-u16-requires
-    add-write-u16
-    write-u16-requires-2
-    add-write-u16-2
-    write-u16-requires-3
-    add-write-i16
-    write-i16-requires
-    add-write-i32
-    write-i32-requires
-    add-write-i32-2
-    write-i32-requires-2
-    same-length
+    (λ c κs. search needs)
+    (λ c. search needs)
+    (λ c κs. search needs)
+    (λ c. search needs)
+    (λ c κs. search needs)
+    (λ c. search needs)
+    (λ c κs. search needs)
+    (λ c. search needs)
+    (λ c κs. search needs)
+    (λ c. search needs)
+    (λ c κs. search needs)
+    (λ c. search needs)
     returns)

@@ -1,7 +1,7 @@
 -- `card_bytes::Card::of` meets its contract: a loop that fills four arrays.
 -- Assumes nothing.
 use Prim.Native.Nat.{_-_, _≤_}
-use mathlib.Core.Path.{_≡_, _∙_, sym}
+use mathlib.Core.Path.{_≡_, _∙_}
 use native.Mathlib.Omega.{arith}
 use mir.Syntax.{w16, w32}
 use Rattle.record.proofs.Signs.{passed}
@@ -11,11 +11,6 @@ use borrow.Author.Needs.{needs}
 use Rattle.card_bytes.proofs.Tables.{Filled, filled-none, filled-more, filled-take}
 use Rattle.card_bytes.proofs.Card.of.Statement.{statement}
 use Rattle.card_bytes.proofs.Card.of.Tie as tie
-use Rattle.card_bytes.proofs.Card.of.Reads as reads
-use Rattle.card_bytes.proofs.Card.of.Lts as lts
-use Rattle.record.proofs.read_i16.Reads as read-i16-reads
-use Rattle.record.proofs.read_i32.Reads as read-i32-reads
-use Rattle.record.proofs.read_u16.Reads as read-u16-reads
 
 abbrev Inv-loop : tie.InvT-loop
 Inv-loop list n minutes₀ ordinates₀ slopes₀ curvatures₀ i₀ minutes ordinates slopes curvatures i =
@@ -24,74 +19,8 @@ Inv-loop list n minutes₀ ordinates₀ slopes₀ curvatures₀ i₀ minutes ord
 abbrev μ-loop : tie.MeasureT-loop
 μ-loop list n minutes₀ ordinates₀ slopes₀ curvatures₀ i₀ minutes ordinates slopes curvatures i = n - i
 
-read-u16-requires : tie.Need-read-u16-requires Inv-loop μ-loop
-read-u16-requires c κs = search needs
-
-cast-n : tie.Need-cast-n Inv-loop μ-loop
-cast-n c = search needs
-
 loop-holds : tie.Need-loop-holds Inv-loop μ-loop
 loop-holds c = (omega arith, filled-none, filled-none, filled-none, filled-none)
-
-mul-at : tie.Need-mul-at Inv-loop μ-loop
-mul-at c = search needs
-
-add-at : tie.Need-add-at Inv-loop μ-loop
-add-at c = search needs
-
-add-read-u16 : tie.Need-add-read-u16 Inv-loop μ-loop
-add-read-u16 c = search needs
-
-read-u16-requires-2 : tie.Need-read-u16-requires-2 Inv-loop μ-loop
-read-u16-requires-2 c κs = search needs
-
-mul-minutes : tie.Need-mul-minutes Inv-loop μ-loop
-mul-minutes c = search needs
-
-array-write-minutes : tie.Need-array-write-minutes Inv-loop μ-loop
-array-write-minutes c = search needs
-
-add-read-i16 : tie.Need-add-read-i16 Inv-loop μ-loop
-add-read-i16 c = search needs
-
-read-i16-requires : tie.Need-read-i16-requires Inv-loop μ-loop
-read-i16-requires c κs = search needs
-
-mul-ordinates : tie.Need-mul-ordinates Inv-loop μ-loop
-mul-ordinates c = search needs
-
-array-set-from-ordinates : tie.Need-array-set-from-ordinates Inv-loop μ-loop
-array-set-from-ordinates c = search needs
-
-add-read-i32 : tie.Need-add-read-i32 Inv-loop μ-loop
-add-read-i32 c = search needs
-
-read-i32-requires : tie.Need-read-i32-requires Inv-loop μ-loop
-read-i32-requires c κs = search needs
-
-mul-slopes : tie.Need-mul-slopes Inv-loop μ-loop
-mul-slopes c = search needs
-
-array-set-from-slopes : tie.Need-array-set-from-slopes Inv-loop μ-loop
-array-set-from-slopes c = search needs
-
-add-read-i32-2 : tie.Need-add-read-i32-2 Inv-loop μ-loop
-add-read-i32-2 c = search needs
-
-read-i32-requires-2 : tie.Need-read-i32-requires-2 Inv-loop μ-loop
-read-i32-requires-2 c κs = search needs
-
-mul-curvatures : tie.Need-mul-curvatures Inv-loop μ-loop
-mul-curvatures c = search needs
-
-array-set-from-curvatures : tie.Need-array-set-from-curvatures Inv-loop μ-loop
-array-set-from-curvatures c = search needs
-
-add-i : tie.Need-add-i Inv-loop μ-loop
-add-i c = search needs
-
-loop-less : tie.Need-loop-less Inv-loop μ-loop
-loop-less c = search needs
 
 loop-again : tie.Need-loop-again Inv-loop μ-loop
 loop-again c =
@@ -103,12 +32,6 @@ loop-again c =
       filled-more (v .3) (omega arith) (passed w32 (c .before .read-i32 .result) (c .before .read-i32 .ok) ∙ c .before .read-i32 .ensures),
       filled-more (v .4) (omega arith) (passed w32 (c .read-i322 .result) (c .read-i322 .ok) ∙ c .read-i322 .ensures),
     )
-
-read-u16-requires-3 : tie.Need-read-u16-requires-3 Inv-loop μ-loop
-read-u16-requires-3 c κs = search needs
-
-read-u16-requires-4 : tie.Need-read-u16-requires-4 Inv-loop μ-loop
-read-u16-requires-4 c κs = search needs
 
 returns : tie.Need-returns Inv-loop μ-loop
 unfolding card-of decoded
@@ -136,30 +59,30 @@ of-spec =
     (tie.spec
     Inv-loop
     μ-loop
-    read-u16-requires
-    cast-n
+    (λ c κs. search needs)
+    (λ c. search needs)
     loop-holds
-    mul-at
-    add-at
-    add-read-u16
-    read-u16-requires-2
-    mul-minutes
-    array-write-minutes
-    add-read-i16
-    read-i16-requires
-    mul-ordinates
-    array-set-from-ordinates
-    add-read-i32
-    read-i32-requires
-    mul-slopes
-    array-set-from-slopes
-    add-read-i32-2
-    read-i32-requires-2
-    mul-curvatures
-    array-set-from-curvatures
-    add-i
-    loop-less
+    (λ c. search needs)
+    (λ c. search needs)
+    (λ c. search needs)
+    (λ c κs. search needs)
+    (λ c. search needs)
+    (λ c. search needs)
+    (λ c. search needs)
+    (λ c κs. search needs)
+    (λ c. search needs)
+    (λ c. search needs)
+    (λ c. search needs)
+    (λ c κs. search needs)
+    (λ c. search needs)
+    (λ c. search needs)
+    (λ c. search needs)
+    (λ c κs. search needs)
+    (λ c. search needs)
+    (λ c. search needs)
+    (λ c. search needs)
+    (λ c. search needs)
     loop-again
-    read-u16-requires-3
-    read-u16-requires-4
+    (λ c κs. search needs)
+    (λ c κs. search needs)
     returns)
