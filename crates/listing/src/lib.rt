@@ -1,7 +1,7 @@
 // The text that both programs print, written into a lent buffer: document 01, "Two programs". Each function here asks for the room of what it writes, and
 // answers the offset behind it.
 ghost use mathlib.Core.Path.{_≡_};
-ghost use Prim.Native.Nat.{_+_, _≤_, _<_};
+ghost use Prim.Native.Nat.{_+_, _*_, _^_, _≤_, _<_};
 ghost use mathlib.Core.List.{[], _∷_, _++_};
 ghost use lib.IntN.{natAbs};
 ghost use lib.ListN.{length};
@@ -135,7 +135,7 @@ fn refused_line(text: &mut [u8], at: usize, number: u32, place: u32) -> usize
     put_byte(text, after_place, b'\n')
 }
 
-// The whole listing at the front of a buffer, and its length.
+// The whole listing at the front of a buffer, and its length: the line of a knot has at most 48 bytes, the last line at most 33.
 pub fn list(
     number: u32,
     place: u32,
@@ -146,7 +146,7 @@ pub fn list(
     text: &mut [u8],
 ) -> usize
     requires { ⌜ (length (now ordinates) ≡ length (now minutes)) × (length (now slopes) ≡ length (now minutes)) × (length (now curvatures) ≡ length (now minutes)) ⌝ }
-    requires { ⌜ (length (now minutes) ≤ 64) × (4096 ≤ length (now text)) ⌝ }
+    requires { ⌜ (length (now minutes) < 2 ^ 32) × (48 * length (now minutes) + 33 ≤ length (now text)) ⌝ }
     ensures { λ r. ⌜ Put (listing number place (now (minutes .entry)) (now (ordinates .entry)) (now (slopes .entry)) (now (curvatures .entry))) (now (text .entry)) (now (text .exit)) 0 r ⌝ }
 {
     if number != 0 {
