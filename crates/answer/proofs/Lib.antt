@@ -1,3 +1,4 @@
 pub mod Steps
 pub mod Loops
 pub mod Never
+pub mod Outcome
