@@ -3,3 +3,4 @@ pub mod Loops
 pub mod Never
 pub mod Chain
 pub mod Outcome
+pub mod Chain
