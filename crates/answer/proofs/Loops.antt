@@ -30,19 +30,6 @@ each-end check i n h = ap (λ k. each check i k) none
     none : n - i ≡ 0
     none = omega arith
 
-<<<<<<< HEAD
-=======
--- ---- a check that answers a number, 0 where it accepts
-
-pub is-refused : (m p : ℕ) → 0 < m → numbered m p ≡ refused m p
-is-refused zero p h = absurd (omega arith)
-is-refused (suc m) p h = ap (λ k. refused k p) (omega arith)
-
-pub is-accepted : (m p : ℕ) → m ≤ 0 → numbered m p ≡ accepted
-is-accepted zero p h = λ i. accepted
-is-accepted (suc m) p h = absurd (omega arith)
-
->>>>>>> 653e159676061f91261a4242c45e68f084022544
 -- the invariant: the places before i are accepted
 pub record Rest (check : ℕ → Verdict) (n i : ℕ) : Type 0 where
   pub within : i ≤ n
@@ -64,11 +51,11 @@ module _ {check : ℕ → Verdict} {n : ℕ} where
 
 -- ---- a check that answers a number, 0 where it accepts
 
-is-refused : (m p : ℕ) → 0 < m → numbered m p ≡ refused m p
+pub is-refused : (m p : ℕ) → 0 < m → numbered m p ≡ refused m p
 is-refused zero p h = absurd (omega arith)
 is-refused (suc m) p h = ap (λ k. refused k p) (omega arith)
 
-is-accepted : (m p : ℕ) → m ≤ 0 → numbered m p ≡ accepted
+pub is-accepted : (m p : ℕ) → m ≤ 0 → numbered m p ≡ accepted
 is-accepted zero p h = λ i. accepted
 is-accepted (suc m) p h = absurd (omega arith)
 
