@@ -30,16 +30,6 @@ each-end check i n h = ap (λ k. each check i k) none
     none : n - i ≡ 0
     none = omega arith
 
--- ---- a check that answers a number, 0 where it accepts
-
-pub is-refused : (m p : ℕ) → 0 < m → numbered m p ≡ refused m p
-is-refused zero p h = absurd (omega arith)
-is-refused (suc m) p h = ap (λ k. refused k p) (omega arith)
-
-pub is-accepted : (m p : ℕ) → m ≤ 0 → numbered m p ≡ accepted
-is-accepted zero p h = λ i. accepted
-is-accepted (suc m) p h = absurd (omega arith)
-
 -- the invariant: the places before i are accepted
 pub record Rest (check : ℕ → Verdict) (n i : ℕ) : Type 0 where
   pub within : i ≤ n
@@ -50,11 +40,28 @@ module _ {check : ℕ → Verdict} {n : ℕ} where
   rest-starts = record { within = omega arith; decides = ap (λ k. each check 0 k) (sub-zero n) }
 
   module _ {i : ℕ} (r : Rest check n i) where
-    pub rest-goes-on : {m : ℕ} → i < n → check i ≡ numbered m i → m ≤ 0 → Rest check n (i + 1)
-    rest-goes-on {m} h e z = record { within = omega arith; decides = sym (each-next check i n h (e ∙ is-accepted m i z)) ∙ r .decides }
+    pub rest-passes : i < n → check i ≡ accepted → Rest check n (i + 1)
+    rest-passes h e = record { within = omega arith; decides = sym (each-next check i n h e) ∙ r .decides }
 
-    pub rest-refuses : {m : ℕ} → i < n → check i ≡ numbered m i → 0 < m → refused m i ≡ each check 0 n
-    rest-refuses {m} h e z = sym (each-here check i n h (e ∙ is-refused m i z)) ∙ r .decides
+    pub rest-stops : {m p : ℕ} → i < n → check i ≡ refused m p → refused m p ≡ each check 0 n
+    rest-stops h e = sym (each-here check i n h e) ∙ r .decides
 
     pub rest-accepts : n ≤ i → accepted ≡ each check 0 n
     rest-accepts h = sym (each-end check i n h) ∙ r .decides
+
+-- ---- a check that answers a number, 0 where it accepts
+
+pub is-refused : (m p : ℕ) → 0 < m → numbered m p ≡ refused m p
+is-refused zero p h = absurd (omega arith)
+is-refused (suc m) p h = ap (λ k. refused k p) (omega arith)
+
+pub is-accepted : (m p : ℕ) → m ≤ 0 → numbered m p ≡ accepted
+is-accepted zero p h = λ i. accepted
+is-accepted (suc m) p h = absurd (omega arith)
+
+module _ {check : ℕ → Verdict} {n i : ℕ} (r : Rest check n i) where
+  pub rest-goes-on : {m : ℕ} → i < n → check i ≡ numbered m i → m ≤ 0 → Rest check n (i + 1)
+  rest-goes-on {m} h e z = rest-passes r h (e ∙ is-accepted m i z)
+
+  pub rest-refuses : {m : ℕ} → i < n → check i ≡ numbered m i → 0 < m → refused m i ≡ each check 0 n
+  rest-refuses {m} h e z = rest-stops r h (e ∙ is-refused m i z)

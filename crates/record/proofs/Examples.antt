@@ -6,8 +6,9 @@ use mathlib.Core.List.{List, [], _∷_, _++_}
 use lib.ListN.{take}
 use lib.IntN.{pos, negsuc}
 use mir.Syntax.{w16, w32}
+use Rattle.answer.specs.Answer.{refused, given, _then_, refuse}
 use Rattle.record.specs.Numbers.{le, un, numAt, signedBytes, signedAt}
-use Rattle.record.specs.Record.{Answer, header, isAt, recordAt}
+use Rattle.record.specs.Record.{span, header, isAt, recordAt}
 
 abbrev printed : List ℕ
 printed =
@@ -19,14 +20,11 @@ written =
     header 1 6 ++ le 2 5 ++ le 2 0 ++ le 2 0 ++ header 2 12 ++ le 2 0 ++ signedBytes w16 (pos 500)
     ++ signedBytes w32 (negsuc 819199) ++ signedBytes w32 (pos 147200)
 
-abbrev answers : ℕ → ℕ → ℕ → ℕ → Answer
-answers number place start next = record { number = number; place = place; start = start; next = next }
-
 pub holds :
-    (written ≡ printed) × (recordAt printed 0 1 6 ≡ answers 0 0 4 10) × (numAt 2 printed 4 ≡ 5)
-    × (recordAt printed 10 2 12 ≡ answers 0 0 14 26) × (numAt 2 printed 14 ≡ 0) × (signedAt w16 printed 16 ≡ pos 500)
+    (written ≡ printed) × (recordAt printed 0 1 6 ≡ given (span 4 10)) × (numAt 2 printed 4 ≡ 5)
+    × (recordAt printed 10 2 12 ≡ given (span 14 26)) × (numAt 2 printed 14 ≡ 0) × (signedAt w16 printed 16 ≡ pos 500)
     × (signedAt w32 printed 18 ≡ negsuc 819199) × (signedAt w32 printed 22 ≡ pos 147200)
-    × (recordAt (take 25 printed) 10 2 12 ≡ answers 14 10 0 0) × (recordAt printed 26 3 0 ≡ answers 14 26 0 0)
-    × (recordAt printed 10 4 12 ≡ answers 14 10 0 0) × (recordAt printed 10 2 11 ≡ answers 14 10 0 0)
-unfolding le un numAt signedBytes signedAt header isAt recordAt
+    × (recordAt (take 25 printed) 10 2 12 ≡ refused 14 10) × (recordAt printed 26 3 0 ≡ refused 14 26)
+    × (recordAt printed 10 4 12 ≡ refused 14 10) × (recordAt printed 10 2 11 ≡ refused 14 10)
+unfolding le un numAt signedBytes signedAt header isAt recordAt refuse _then_
 holds = (refl, refl, refl, refl, refl, refl, refl, refl, refl, refl, refl, refl)

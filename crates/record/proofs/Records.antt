@@ -2,15 +2,17 @@
 -- a header's bytes, both ways. They follow document 01, "Card bytes", and assume nothing.
 use Prim.Native.Nat.{ℕ, _+_, _-_, _≤_, _<_}
 use mathlib.Core.Path.{_≡_, _∙_, refl, sym, ap}
-use mathlib.Core.Bool.{Bool, true, false, _&&_, true≢false}
+use mathlib.Core.Bool.{Bool, true, false, not, _&&_, true≢false}
 use mathlib.Core.List.{List, _++_, append-assoc}
 use native.Mathlib.Nat.{add-assoc}
 use native.Mathlib.Omega.{arith}
 use lib.ListN.{length, drop, length-drop}
 use lib.Dec.{eqb, lit<}
 use borrow.Author.Tests.{le-leb, lt-leb, eq-eqb, ne-eqb, leb-true, eqb-true}
+use Rattle.answer.specs.Answer.{Answer, refused, given, _then_, refuse}
+use Rattle.answer.proofs.Steps.{not-both}
 use Rattle.record.specs.Numbers.{le, numAt, Bytes}
-use Rattle.record.specs.Record.{header, isAt, Answer, answerOf, accepted, refused, recordAt, pick}
+use Rattle.record.specs.Record.{header, isAt, Span, span, found-of, recordAt}
 use Rattle.record.specs.declared.Cursor.{Cursor}
 use Rattle.record.specs.declared.Found.{Found}
 use Rattle.record.specs.declared.Found.the-variants.{Body, Bad}
@@ -20,15 +22,14 @@ both : (a b : Bool) → (a && b) ≡ true → (a ≡ true) × (b ≡ true)
 both true b t = (refl, t)
 both false b t = absurd (true≢false (sym t))
 
-apart : {start next at : ℕ} → accepted start next ≡ refused at → ⊥
-apart e = let z : _≡_ {A = ℕ} 0 14 = ap (λ (a : Answer). a .number) e in omega arith
-
 -- a number, a place and values belong to one answer only, so that a promise of them leaves one outcome
-pub one-outcome : (a b : Found) → answerOf a ≡ answerOf b → a ≡ b
-one-outcome (Body start next) (Body start′ next′) e = ap (λ (a : Answer). Body (a .start) (record { at = a .next })) e
-one-outcome (Body start next) (Bad at) e = absurd (apart e)
-one-outcome (Bad at) (Body start next) e = absurd (apart (sym e))
-one-outcome (Bad at) (Bad at′) e = ap (λ (a : Answer). Bad (a .place)) e
+pub one-outcome : (a b : Found) → found-of a ≡ found-of b → a ≡ b
+one-outcome (Body start next) (Body start′ next′) e =
+    let f : span start (next .at) ≡ span start′ (next′ .at) = cc in
+    ap (λ (a : Span). Body (a .start) (record { at = a .next })) f
+one-outcome (Body start next) (Bad at) e = absurd (not-both (sym e))
+one-outcome (Bad at) (Body start next) e = absurd (not-both e)
+one-outcome (Bad at) (Bad at′) e = cc
 
 module _ (s : List ℕ) (at kind long : ℕ) where
   -- what a record that stands at an offset has
@@ -64,15 +65,18 @@ module _ (s : List ℕ) (at kind long : ℕ) where
 
   -- ---- the answers
 
-  pub found : isAt s at kind long ≡ true → accepted (at + 4) (at + 4 + long) ≡ recordAt s at kind long
-  unfolding recordAt
+  pub found : isAt s at kind long ≡ true → given (span (at + 4) (at + 4 + long)) ≡ recordAt s at kind long
+  unfolding recordAt refuse _then_
   found t = rw (t, add-assoc)
 
-  pub bad : isAt s at kind long ≡ false → refused at ≡ recordAt s at kind long
-  unfolding recordAt
+  pub bad : isAt s at kind long ≡ false → refused 14 at ≡ recordAt s at kind long
+  unfolding recordAt refuse _then_
   bad t = rw t
 
   -- ---- what a caller learns of an answer
+
+  answered : Bool → Answer Span
+  answered t = refuse 14 at (not t) then given (span (at + 4) (at + (4 + long)))
 
   pub record Present (start : ℕ) (next : Cursor) : Type 0 where
     pub is : isAt s at kind long ≡ true
@@ -80,27 +84,27 @@ module _ (s : List ℕ) (at kind long : ℕ) where
     pub behind : next .at ≡ at + (4 + long)
 
   pub present : {r : Found} {start : ℕ} {next : Cursor}
-      → answerOf r ≡ recordAt s at kind long → r ≡ Body start next → Present start next
-  unfolding recordAt
-  present {r} {start} {next} p q = go (isAt s at kind long) refl (sym (ap answerOf q) ∙ p)
+      → found-of r ≡ recordAt s at kind long → r ≡ Body start next → Present start next
+  unfolding recordAt refuse _then_ answered
+  present {r} {start} {next} p q = go (isAt s at kind long) refl (sym (ap found-of q) ∙ p)
     where
-      go : (t : Bool) → isAt s at kind long ≡ t
-          → accepted start (next .at) ≡ pick t (accepted (at + 4) (at + (4 + long))) (refused at) → Present start next
-      go true i e = record { is = i; body = ap (λ (a : Answer). a .start) e; behind = ap (λ (a : Answer). a .next) e }
-      go false i e = absurd (apart e)
+      go : (t : Bool) → isAt s at kind long ≡ t → given (span start (next .at)) ≡ answered t → Present start next
+      go true i e =
+          let f : span start (next .at) ≡ span (at + 4) (at + (4 + long)) = cc in
+          record { is = i; body = ap (λ (a : Span). a .start) f; behind = ap (λ (a : Span). a .next) f }
+      go false i e = absurd (not-both (sym e))
 
   pub record Missing (place : ℕ) : Type 0 where
     pub is-not : isAt s at kind long ≡ false
     pub offset : place ≡ at
 
-  pub missing : {r : Found} {place : ℕ} → answerOf r ≡ recordAt s at kind long → r ≡ Bad place → Missing place
-  unfolding recordAt
-  missing {r} {place} p q = go (isAt s at kind long) refl (sym (ap answerOf q) ∙ p)
+  pub missing : {r : Found} {place : ℕ} → found-of r ≡ recordAt s at kind long → r ≡ Bad place → Missing place
+  unfolding recordAt refuse _then_ answered
+  missing {r} {place} p q = go (isAt s at kind long) refl (sym (ap found-of q) ∙ p)
     where
-      go : (t : Bool) → isAt s at kind long ≡ t
-          → refused place ≡ pick t (accepted (at + 4) (at + (4 + long))) (refused at) → Missing place
-      go true i e = absurd (apart (sym e))
-      go false i e = record { is-not = i; offset = ap (λ (a : Answer). a .place) e }
+      go : (t : Bool) → isAt s at kind long ≡ t → refused 14 place ≡ answered t → Missing place
+      go true i e = absurd (not-both e)
+      go false i e = record { is-not = i; offset = cc }
 
   -- ---- a header's bytes
 

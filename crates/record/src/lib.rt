@@ -7,7 +7,7 @@ ghost use lib.Seq.{sets};
 ghost use mir.Syntax.{w16, w32};
 ghost use mir.Val.{toZ, ofZ};
 ghost use Rattle.record.specs.Numbers.{le, numAt, signedBytes, signedAt};
-ghost use Rattle.record.specs.Record.{isAt, answerOf, recordAt};
+ghost use Rattle.record.specs.Record.{isAt, found-of, recordAt};
 
 pub fn read_u16(list: &[u8], at: usize) -> u16
     requires { ⌜ at + 2 ≤ length (now list) ⌝ }
@@ -151,7 +151,7 @@ impl Cursor {
 
     // The offset may be any, and so may the bytes: 14 stands for all that is no such record.
     pub fn read(self, list: &[u8], kind: u16, length: u16) -> Found
-        ensures { λ r. ⌜ answerOf r ≡ recordAt (now (list .entry)) (self .at) kind length ⌝ }
+        ensures { λ r. ⌜ found-of r ≡ recordAt (now (list .entry)) (self .at) kind length ⌝ }
     {
         let at = self.at;
         if is_at(list, at, kind, length) {
