@@ -29,6 +29,10 @@ same-length c = search needs
 same-length-2 : tie.Need-same-length-2
 same-length-2 c = search needs
 
+returns-2 : tie.Need-returns-2
+unfolding tested
+returns-2 c = fits-along (stops (c .before .before .before .judge .ensures) _ (c .before .sound .given .1)) fits-refused
+
 returns : tie.Need-returns
 unfolding tested
 returns c =
@@ -39,10 +43,6 @@ returns c =
     (fits-given
     (c .before .before .before .before .write .ensures ∙ ap (λ n. take n (x .slopes)) (s .pre .0 .slopes))
     (c .before .write2 .ensures ∙ ap (λ n. take n (x .curvatures)) (s .pre .0 .curvatures)))
-
-returns-2 : tie.Need-returns-2
-unfolding tested
-returns-2 c = fits-along (stops (c .before .before .before .judge .ensures) _ (c .before .sound .given .1)) fits-refused
 
 pub settle-spec : {M : Type 1} → statement M
 settle-spec =
