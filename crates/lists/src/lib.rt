@@ -1,0 +1,257 @@
+// What stands on lent lists and needs the curve's arithmetic: 10 knot by knot, the orders of 9 and 10, and the reading at a minute.
+// Document 01, "Numbers of refusal" and "The exact curve". The lists are minutes, ordinates, slopes and curvatures.
+ghost use mathlib.Core.Path.{_≡_};
+ghost use Prim.Native.Nat.{ℕ, _+_, _<_, _≤_, _^_};
+ghost use lib.ListN.{length};
+ghost use lib.IntN.{pos};
+ghost use Rattle.answer.specs.Answer.{accepted, refused, given, each};
+ghost use Rattle.answer.specs.Judge.{verdict-of, numbered};
+ghost use Rattle.curve.specs.Kind.{quintic, end};
+ghost use Rattle.curve.specs.Card.{joint};
+ghost use Rattle.curve.specs.Jump.{jumps};
+ghost use Rattle.curve.specs.Steps.{stands, smooth};
+ghost use Rattle.curve.specs.Orders.{numbers-sound, sound, reading-order};
+ghost use Rattle.knots.specs.Kinds.{kind-of};
+ghost use Rattle.knots.specs.Lent.{lent};
+ghost use Rattle.gaps.specs.Sides.{order-of};
+ghost use Rattle.lists.specs.Lists.{Long, Checked, In-place, numbers-at, code-of, square-of, spell-of, answered};
+
+// ---- 10
+
+// A knot's numbers.
+fn knot_at(ys: &[i16], ms: &[i32], cs: &[i32], i: usize) -> gaps::Knot
+    requires { ⌜ (i < length (now ys)) × (i < length (now ms)) × (i < length (now cs)) ⌝ }
+    ensures { λ r. ⌜ r ≡ numbers-at (now (ys .entry)) (now (ms .entry)) (now (cs .entry)) i ⌝ }
+{
+    gaps::Knot {
+        ordinate: knots::ordinate(ys, i),
+        slope: knots::card_number(ms, i),
+        curvature: knots::card_number(cs, i),
+    }
+}
+
+// The code by which a knot is tested. An inner knot is tested as a free end is.
+fn code_at(left: u16, right: u16, n: usize, i: usize) -> u16
+    requires { ⌜ i < n ⌝ }
+    ensures { λ r. ⌜ r ≡ code-of left right n i ⌝ }
+{
+    if i == 0 {
+        return left;
+    }
+    if i == n - 1 {
+        return right;
+    }
+    0
+}
+
+// "At a free end both; with code 2 the fourth only; with code 1 nothing".
+fn asks(kind: knots::Kind, order: gaps::Order, code: u16) -> bool
+    ensures { λ r. ⌜ r ≡ kind-of kind .asks (end code) (order-of order) ⌝ }
+{
+    let fourth = kind.fourth;
+    match order {
+        gaps::Order::Third => code == 0,
+        gaps::Order::Fourth => {
+            if code == 0 {
+                return fourth;
+            }
+            if code == 2 {
+                return fourth;
+            }
+            false
+        }
+    }
+}
+
+// The first number of a side's allowance.
+fn square(kind: knots::Kind, order: gaps::Order) -> i64
+    ensures { λ r. ⌜ (r ≡ pos (square-of kind order)) × (square-of kind order < 2 ^ 8) ⌝ }
+{
+    let squares = kind.squares;
+    match order {
+        gaps::Order::Third => squares as i64,
+        gaps::Order::Fourth => 20,
+    }
+}
+
+// Whether a derivative jumps at a knot where its code asks for it.
+fn jumps_at(
+    kind: knots::Kind,
+    order: gaps::Order,
+    code: u16,
+    xs: &[u16],
+    ys: &[i16],
+    ms: &[i32],
+    cs: &[i32],
+    i: usize,
+) -> bool
+    requires { ⌜ Checked (now xs) (now ys) (now ms) (now cs) ⌝ }
+    requires { ⌜ i < length (now xs) ⌝ }
+    ensures { λ r. ⌜ ((left right : ℕ) → code ≡ code-of left right (length (now (xs .entry))) i → r ≡ jumps (kind-of kind) (joint (lent (now (xs .entry)) (now (ys .entry)) (now (ms .entry)) (now (cs .entry)) left right) i) (order-of order)) ⌝ }
+{
+    if asks(kind, order, code) {
+        let before = knot_at(ys, ms, cs, knots::back(i));
+        let here = knot_at(ys, ms, cs, i);
+        let after = knot_at(ys, ms, cs, knots::on(xs.len(), i));
+        let q = knots::left_gap(xs, i) as i64;
+        let h = knots::right_gap(xs, i) as i64;
+        return gaps::jumps(order, square(kind, order), q, h, before, here, after);
+    }
+    false
+}
+
+// The number at a knot; 0 where no derivative jumps.
+fn rough_at(
+    kind: knots::Kind,
+    left: u16,
+    right: u16,
+    xs: &[u16],
+    ys: &[i16],
+    ms: &[i32],
+    cs: &[i32],
+    i: usize,
+) -> u32
+    requires { ⌜ Checked (now xs) (now ys) (now ms) (now cs) ⌝ }
+    requires { ⌜ i < length (now xs) ⌝ }
+    ensures { λ r. ⌜ smooth (kind-of kind) (lent (now (xs .entry)) (now (ys .entry)) (now (ms .entry)) (now (cs .entry)) left right) i ≡ numbered r i ⌝ }
+{
+    let code = code_at(left, right, xs.len(), i);
+    if jumps_at(kind, gaps::Order::Third, code, xs, ys, ms, cs, i) {
+        return 10;
+    }
+    if jumps_at(kind, gaps::Order::Fourth, code, xs, ys, ms, cs, i) {
+        return 10;
+    }
+    0
+}
+
+// Knot by knot.
+fn smooth(
+    kind: knots::Kind,
+    left: u16,
+    right: u16,
+    xs: &[u16],
+    ys: &[i16],
+    ms: &[i32],
+    cs: &[i32],
+) -> answer::Judged
+    requires { ⌜ Checked (now xs) (now ys) (now ms) (now cs) ⌝ }
+    ensures { λ r. ⌜ verdict-of r ≡ each (smooth (kind-of kind) (lent (now (xs .entry)) (now (ys .entry)) (now (ms .entry)) (now (cs .entry)) left right)) 0 (length (now (xs .entry))) ⌝ }
+{
+    let mut i = 0;
+    while i < xs.len() {
+        let number = rough_at(kind, left, right, xs, ys, ms, cs, i);
+        if 0 < number {
+            return answer::Judged::Refused(number, i as u32);
+        }
+        i += 1;
+    }
+    answer::Judged::Accepted
+}
+
+// ---- the orders
+
+// "9; 10", of lists that 4, 5 and 6 accept.
+pub fn numbers_sound(
+    kind: knots::Kind,
+    left: u16,
+    right: u16,
+    xs: &[u16],
+    ys: &[i16],
+    ms: &[i32],
+    cs: &[i32],
+) -> answer::Judged
+    requires { ⌜ Long (now xs) (now ys) (now ms) (now cs) ⌝ }
+    requires { ⌜ each (stands quintic (now xs) (now ys)) 0 (length (now xs)) ≡ accepted ⌝ }
+    ensures { λ r. ⌜ verdict-of r ≡ numbers-sound (kind-of kind) (lent (now (xs .entry)) (now (ys .entry)) (now (ms .entry)) (now (cs .entry)) left right) ⌝ }
+{
+    let ranged = knots::in_range(xs, ms, cs);
+    match ranged {
+        answer::Judged::Accepted => smooth(kind, left, right, xs, ys, ms, cs),
+        answer::Judged::Refused(number, place) => answer::Judged::Refused(number, place),
+    }
+}
+
+// "Per knot 4, 5, 6; 9; 10."
+pub fn sound(
+    kind: knots::Kind,
+    left: u16,
+    right: u16,
+    xs: &[u16],
+    ys: &[i16],
+    ms: &[i32],
+    cs: &[i32],
+) -> answer::Judged
+    requires { ⌜ Long (now xs) (now ys) (now ms) (now cs) ⌝ }
+    ensures { λ r. ⌜ verdict-of r ≡ sound (kind-of kind) (lent (now (xs .entry)) (now (ys .entry)) (now (ms .entry)) (now (cs .entry)) left right) ⌝ }
+{
+    let stood = knots::stand(xs, ys);
+    match stood {
+        answer::Judged::Accepted => numbers_sound(kind, left, right, xs, ys, ms, cs),
+        answer::Judged::Refused(number, place) => answer::Judged::Refused(number, place),
+    }
+}
+
+// ---- a reading
+
+// What a card reads at a minute; zeros beside the number and place of a refusal.
+#[repr(C)]
+pub struct CardReading {
+    pub number: u32,
+    pub place: u32,
+    pub value: i32,
+    pub slope: i32,
+    pub curvature: i32,
+}
+
+impl CardReading {
+    pub fn refused(number: u32, place: u32) -> CardReading
+        ensures { λ r. ⌜ r ≡ answered (refused number place) ⌝ }
+    {
+        CardReading {
+            number,
+            place,
+            value: 0,
+            slope: 0,
+            curvature: 0,
+        }
+    }
+}
+
+// At a minute of the gap that starts at place i.
+fn read_gap(xs: &[u16], ys: &[i16], ms: &[i32], cs: &[i32], i: usize, minute: u16) -> CardReading
+    requires { ⌜ Checked (now xs) (now ys) (now ms) (now cs) ⌝ }
+    requires { ⌜ In-place (now xs) i minute ⌝ }
+    ensures { λ r. ⌜ ((left right : ℕ) → r ≡ answered (given (spell-of (lent (now (xs .entry)) (now (ys .entry)) (now (ms .entry)) (now (cs .entry)) left right) i minute))) ⌝ }
+{
+    let from = xs[i];
+    let to = xs[i + 1];
+    let h = (to - from) as i64;
+    let t = (minute - from) as i64;
+    let a = knot_at(ys, ms, cs, i);
+    let b = knot_at(ys, ms, cs, i + 1);
+    let r = gaps::Reading::between(h, t, a, b);
+    CardReading {
+        number: 0,
+        place: 0,
+        value: r.value,
+        slope: r.slope,
+        curvature: r.curvature,
+    }
+}
+
+// Of lists that 4, 5, 6, 9 accept: 11, or what they read at the minute.
+pub fn read_at(xs: &[u16], ys: &[i16], ms: &[i32], cs: &[i32], minute: u16) -> CardReading
+    requires { ⌜ Checked (now xs) (now ys) (now ms) (now cs) ⌝ }
+    requires { ⌜ 2 ≤ length (now xs) ⌝ }
+    ensures { λ r. ⌜ ((left right : ℕ) → r ≡ answered (reading-order accepted (lent (now (xs .entry)) (now (ys .entry)) (now (ms .entry)) (now (cs .entry)) left right) minute)) ⌝ }
+{
+    let outside = knots::outside(xs, minute);
+    match outside {
+        answer::Judged::Accepted => {
+            let i = knots::gap_of(xs, minute);
+            read_gap(xs, ys, ms, cs, i, minute)
+        }
+        answer::Judged::Refused(number, place) => CardReading::refused(number, place),
+    }
+}
