@@ -1,19 +1,20 @@
--- What a step's answer says of an order that starts with it, as a program that matches the answer goes on. Assumes nothing.
-use mathlib.Core.Path.{_≡_, refl, sym, ap, _∙_}
+-- A step of an order as the code takes it: it answers a `Judged`, and where that is accepted, what follows.
+-- Assumes nothing.
+use mathlib.Core.Path.{_≡_, sym, ap, _∙_}
 use Prim.Native.Nat.{ℕ}
 use Rattle.answer.specs.Answer.{Answer, refused, Verdict, accepted, _then_}
 use Rattle.answer.specs.Judge.{verdict-of}
 use Rattle.answer.specs.declared.Judged.{Judged}
 use Rattle.answer.specs.declared.Judged.the-variants.{Accepted, Refused}
 
-module _ {j : Judged} {v : Verdict} (e : verdict-of j ≡ v) where
-  pub step-accepts : j ≡ Accepted → v ≡ accepted
-  step-accepts f = sym e ∙ ap verdict-of f
+pub step-accepts : {v : Verdict} {j : Judged} → verdict-of j ≡ v → j ≡ Accepted → v ≡ accepted
+step-accepts e q = sym e ∙ ap verdict-of q
 
-  pub goes-on : {A : Type 0} {b : Answer A} → j ≡ Accepted → b ≡ (v then b)
+module _ {A : Type 0} {v : Verdict} {j : Judged} (b : Answer A) (e : verdict-of j ≡ v) where
+  pub step-refuses : {n p : ℕ} → j ≡ Refused n p → refused n p ≡ (v then b)
   unfolding _then_
-  goes-on {b = b} f = sym (ap (λ w. w then b) (step-accepts f))
+  step-refuses q = ap (λ u. u then b) (sym (ap verdict-of q) ∙ e)
 
-  pub stops : {A : Type 0} (b : Answer A) {n p : ℕ} → j ≡ Refused n p → refused n p ≡ (v then b)
+  pub step-passes : {a : Answer A} → j ≡ Accepted → a ≡ b → a ≡ (v then b)
   unfolding _then_
-  stops b f = sym (ap (λ w. w then b) (sym e ∙ ap verdict-of f))
+  step-passes q f = f ∙ ap (λ u. u then b) (sym (ap verdict-of q) ∙ e)
