@@ -2,10 +2,13 @@
 -- Assumes nothing.
 use mathlib.Core.Path.{_≡_, sym, ap, _∙_}
 use Prim.Native.Nat.{ℕ}
-use Rattle.answer.specs.Answer.{Answer, refused, Verdict, _then_}
+use Rattle.answer.specs.Answer.{Answer, refused, Verdict, accepted, _then_}
 use Rattle.answer.specs.Judge.{verdict-of}
 use Rattle.answer.specs.declared.Judged.{Judged}
 use Rattle.answer.specs.declared.Judged.the-variants.{Accepted, Refused}
+
+pub step-accepts : {v : Verdict} {j : Judged} → verdict-of j ≡ v → j ≡ Accepted → v ≡ accepted
+step-accepts e q = sym e ∙ ap verdict-of q
 
 module _ {A : Type 0} {v : Verdict} {j : Judged} (b : Answer A) (e : verdict-of j ≡ v) where
   pub step-refuses : {n p : ℕ} → j ≡ Refused n p → refused n p ≡ (v then b)

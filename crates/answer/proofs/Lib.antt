@@ -1,5 +1,5 @@
 pub mod Steps
 pub mod Loops
-pub mod Never
 pub mod Chain
+pub mod Never
 pub mod Outcome

@@ -1,0 +1,7 @@
+pub mod Fitting
+pub mod Order
+pub mod Held
+pub mod Worked
+pub mod Card
+pub mod Outcome
+pub mod Table3

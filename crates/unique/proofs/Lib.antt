@@ -1,0 +1,4 @@
+pub mod Energy
+pub mod Balance
+pub mod Zero
+pub mod Unique

@@ -1,0 +1,1 @@
+// Laws only (proofs/): the exact solution of a card is unique.
