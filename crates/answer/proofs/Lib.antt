@@ -1,4 +1,5 @@
 pub mod Steps
 pub mod Loops
+pub mod Chain
 pub mod Never
 pub mod Outcome

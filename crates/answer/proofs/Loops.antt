@@ -51,11 +51,11 @@ module _ {check : ℕ → Verdict} {n : ℕ} where
 
 -- ---- a check that answers a number, 0 where it accepts
 
-is-refused : (m p : ℕ) → 0 < m → numbered m p ≡ refused m p
+pub is-refused : (m p : ℕ) → 0 < m → numbered m p ≡ refused m p
 is-refused zero p h = absurd (omega arith)
 is-refused (suc m) p h = ap (λ k. refused k p) (omega arith)
 
-is-accepted : (m p : ℕ) → m ≤ 0 → numbered m p ≡ accepted
+pub is-accepted : (m p : ℕ) → m ≤ 0 → numbered m p ≡ accepted
 is-accepted zero p h = λ i. accepted
 is-accepted (suc m) p h = absurd (omega arith)
 

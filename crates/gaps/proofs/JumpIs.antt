@@ -10,7 +10,7 @@ use lib.Signed.{leZ}
 use Rattle.whole.proofs.Solve.{E, _:+_, _:-_, _:*_, :neg, #, ring}
 use Rattle.curve.specs.Formula.{Formula, num, nat, _⊖_, _⊛_, power, worth, amount}
 use Rattle.curve.specs.Curve.{degree, rightward, leftward, allowance}
-use Rattle.curve.specs.Kind.{Kind, quintic}
+use Rattle.curve.specs.Kind.{Kind}
 use Rattle.curve.specs.Card.{gap}
 use Rattle.curve.specs.Card
 use Rattle.curve.specs.Jump.{inverse, clear, over, rise, jump, allowed}
@@ -20,7 +20,7 @@ use Rattle.gaps.specs.declared.Knot.{Knot}
 use Rattle.gaps.specs.declared.Order.{Order}
 use Rattle.gaps.specs.declared.Order.the-variants.{Third, Fourth}
 use Rattle.gaps.specs.Weights.{mirror, numbers}
-use Rattle.gaps.specs.Sides.{order-of, side, opposed, left-side, jump-of, allowing, quintic-square, leeway, leeways, past}
+use Rattle.gaps.specs.Sides.{order-of, side, opposed, left-side, jump-of, allowing, leeway, leeways, past}
 use Rattle.gaps.proofs.Comparing.{sideE}
 
 -- the powers of a gap that is there, and of none
@@ -116,9 +116,3 @@ module _ (o : Order) (a b e : Card.Knot) where
       ≡ not (leZ (pos (natAbs (jump (order-of o) a b e))) (allowed K (order-of o) a b e))
   unfolding past
   jumps-is right left K s f = ap₂ (λ j w. not (leZ (pos (natAbs j)) w)) (sym (jump-is right left)) (sym (allowed-is K s f))
-
--- document 01's allowances are of this form
-pub quintic-allows : (o : Order) (g : ℕ → Formula ℤ) → quintic .allowance (order-of o) g ≡ allowing (nat (quintic-square o)) o g
-unfolding quintic allowance allowing
-quintic-allows Third g = refl
-quintic-allows Fourth g = refl

@@ -16,7 +16,7 @@ use Rattle.curve.specs.Kind.{Kind, quintic}
 use Rattle.curve.specs.Jump.{clear}
 use Rattle.curve.specs.Curve.{degree}
 use Rattle.gaps.specs.declared.Knot.{Knot}
-use Rattle.gaps.specs.Limits.{In-gap, Keeps, most, quantity-fits, gap-fits, Tame, side-most, order-fits, pair-fits, Tried, limits, upto, narrows, readable, testable}
+use Rattle.gaps.specs.Limits.{widest, In-gap, Keeps, most, quantity-fits, gap-fits, Tame, side-most, order-fits, pair-fits, Tried, limits, upto, narrows, readable, testable}
 use Rattle.gaps.proofs.Numerators.{gap-of}
 
 pub quintic-readable : T (readable quintic)
@@ -34,7 +34,7 @@ two-hours =
     record {
       fewest-knots = quintic .fewest-knots;
       most-knots = quintic .most-knots;
-      widest-gap = 120;
+      widest-gap = widest;
       ordinates = quintic .ordinates;
       slopes = quintic .slopes;
       curvatures = λ gap. cond (ltb 60 gap) 65_536 (quintic .curvatures gap);

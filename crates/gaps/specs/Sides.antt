@@ -46,11 +46,6 @@ unfoldable pub allowing : {A : Type 0} → Formula A → Order → (ℕ → Form
 allowing square Third g = square ⊗ g 2 ⊕ 4 ⊛ g 1
 allowing square Fourth g = square ⊗ g 3 ⊕ 4 ⊛ g 2
 
--- "16g2 + 4g for the third, 20g3 + 4g2 for the fourth"
-abbrev pub quintic-square : Order → ℕ
-quintic-square Third = 16
-quintic-square Fourth = 20
-
 -- cleared; and both sides'
 unfoldable pub leeway : ℤ → ℤ → ℤ
 leeway square h = (square +ℤ 4 · h) *ℤ h

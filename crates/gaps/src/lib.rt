@@ -37,7 +37,7 @@ impl Knot {
 }
 
 // What is read off the curve at a minute.
-pub enum Quantity {
+enum Quantity {
     Value,
     Slope,
     Curvature,

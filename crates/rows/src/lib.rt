@@ -330,7 +330,7 @@ pub fn back(x: State, next: Pair) -> Pair
     subtract_pair(x.p, apply(x.h, next))
 }
 
-fn finite(x: f64) -> bool
+pub fn finite(x: f64) -> bool
     ensures { λ r. ⌜ r ≡ is-finite x ⌝ }
 {
     let top = 1.0 / 0.0;

@@ -1,0 +1,5 @@
+pub mod Shape
+pub mod Lists
+pub mod Numbered
+pub mod RoundTrip
+pub mod Demand3

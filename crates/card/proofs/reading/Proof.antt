@@ -1,0 +1,51 @@
+-- `card::reading` meets its contract.
+-- Assumes nothing.
+use mathlib.Core.Path.{_≡_, sym, ap, _∙_}
+use denote.Ref.{now}
+use Rattle.answer.specs.Answer.{accepted}
+use Rattle.answer.specs.Judge.{verdict-of}
+use Rattle.answer.proofs.Chain.{step-refuses}
+use Rattle.curve.specs.Kind.{quintic}
+use Rattle.curve.specs.Orders.{verdict, reading-order}
+use Rattle.lists.specs.Lists.{answered}
+use Rattle.card_bytes.specs.Bytes.{quintic-head}
+use Rattle.card_bytes.specs.Held.{card-of}
+use Rattle.card_bytes.proofs.RoundTrip.{accepted-card}
+use Rattle.card.specs.Answers.{own, read-off}
+use borrow.Author.Needs.{needs}
+use Rattle.card.proofs.reading.Statement.{statement}
+use Rattle.card.proofs.reading.Tie as tie
+
+accepts : (c : tie.After-enum-told) → own (now (c .before .before .before .before .before .args .card)) ≡ accepted
+accepts c = sym (c .before .before .before .by-head .ensures .judged) ∙ ap verdict-of (c .enum-told .given .1)
+
+read-off-requires : tie.Need-read-off-requires
+read-off-requires c κs =
+    let e = accepts c in
+    let h = c .before .before .before .by-head .ensures .holds e in
+    (h .full, ap (verdict quintic) (h .is) ∙ accepted-card quintic quintic-head _ e)
+
+returns : tie.Need-returns
+unfolding read-off reading-order
+returns c = c .refused .ensures ∙ ap answered (step-refuses _ (c .before .before .before .before .before .by-head .ensures .judged) (c .before .before .verdict .given .1))
+
+returns-2 : tie.Need-returns-2
+unfolding read-off
+returns-2 c =
+    let e = accepts (c .before) in
+    let s = now (c .before .before .before .before .before .before .args .card) in
+    let minute = c .before .before .before .before .before .before .args .minute in
+    let h = c .before .before .before .before .by-head .ensures .holds e in
+    c .read-off .ensures ∙ ap (λ k. answered (reading-order accepted k minute)) (h .is) ∙ ap (λ v. answered (reading-order v (card-of s) minute)) (sym e)
+
+pub reading-spec : {M : Type 1} → statement M
+reading-spec =
+    tie.close
+    (tie.spec
+    (λ c κs. search needs)
+    (λ c. search needs)
+    (λ c κs. search needs)
+    (λ c. search needs)
+    read-off-requires
+    returns
+    returns-2)

@@ -1,0 +1,31 @@
+-- The steps of the card's order in the pieces that the code takes, and what it has of a card's bytes once they are opened.
+-- Document 01, "Numbers of refusal": "Card: head 14; 1, 2; 15; the other records 14; per knot 4, 5, 6; 9; 10." Assumes nothing.
+use Prim.Native.Nat.{ℕ}
+use mathlib.Core.Path.{_≡_}
+use mathlib.Core.List.{List}
+use Rattle.answer.specs.Answer.{Verdict, accepted, _then_}
+use Rattle.answer.specs.Judge.{verdict-of}
+use Rattle.record.specs.Numbers.{numAt}
+use Rattle.curve.specs.Kind.{Kind}
+use Rattle.curve.specs.Steps.{counted, codes}
+use Rattle.card_bytes.specs.Held.{count-at}
+use Rattle.card_bytes.specs.Records.{head-due, records-due, card-verdict}
+use Rattle.card_bytes.specs.Decoded.{Holds}
+use Rattle.card.specs.declared.Opened.{Opened}
+
+-- "1, 2; 15"
+unfoldable pub limited : Kind → (n left right : ℕ) → Verdict
+limited K n left right = counted K n then codes K left right
+
+-- "1, 2; 15; the other records 14", by the numbers of the head
+unfoldable pub behind-head : Kind → List ℕ → Verdict
+behind-head K s = limited K (count-at s) (numAt 2 s 6) (numAt 2 s 8) then records-due s (count-at s)
+
+-- "head 14" before them
+unfoldable pub shaped : Kind → ℕ → List ℕ → Verdict
+shaped K head s = head-due head s then behind-head K s
+
+-- bytes that were opened: judged, and where they are accepted, decoded
+pub record Opens (K : Kind) (head : ℕ) (o : Opened) (s : List ℕ) : Type 0 where
+  pub judged : verdict-of (o .verdict) ≡ card-verdict K head s
+  pub holds : card-verdict K head s ≡ accepted → Holds (o .card) s

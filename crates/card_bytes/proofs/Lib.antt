@@ -1,0 +1,7 @@
+pub mod Tables
+pub mod Sizes
+pub mod Standing
+pub mod Made
+pub mod Kept
+pub mod RoundTrip
+pub mod Table3

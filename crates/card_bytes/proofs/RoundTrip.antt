@@ -1,0 +1,94 @@
+-- The round trip of a card's bytes (document 01, "Card bytes" and the orders of "Numbers of refusal"), for every kind of card and whatever its head's kind:
+-- what was written is read back and judged as the lists are; and accepted bytes are those that the writer makes of the card that they hold.
+-- Assumes nothing.
+use Prim.Native.Nat.{ℕ, _^_, _≤_, _<_}
+use mathlib.Core.Path.{_≡_, refl, _∙_}
+use mathlib.Core.List.{List}
+use native.Mathlib.Omega.{arith}
+use lib.ListN.{length}
+use borrow.Author.Tests.{eq-eqb, le-ltb}
+use Rattle.answer.specs.Answer.{accepted, _then_}
+use Rattle.answer.proofs.Steps.{first-accepts, next-accepts, both-accept, accepts-refuse}
+use Rattle.record.specs.Numbers.{Bytes}
+use Rattle.curve.specs.Kind.{Kind}
+use Rattle.curve.specs.Card.{Card, knots}
+use Rattle.curve.specs.Steps.{lengths, counted, size, room}
+use Rattle.curve.specs.Orders.{verdict, card-order, write-order, reading-order, reading}
+use Rattle.curve.specs.Demand.{Demand3}
+use Rattle.curve.proofs.Accepted.{good}
+use Rattle.curve.proofs.Demand3.{demand-3}
+use Rattle.card_bytes.specs.Bytes.{bytes-of}
+use Rattle.card_bytes.specs.Held.{minute-at, ordinate-at, slope-at, curvature-at, count-at, card-of}
+use Rattle.card_bytes.specs.Records.{head-due, card-verdict}
+use Rattle.card_bytes.proofs.Tables.{length-table}
+use Rattle.card_bytes.proofs.Standing.{knots-of, Whole, whole, whole-headed, whole-recorded, whole-size}
+use Rattle.card_bytes.proofs.Made.{made}
+use Rattle.card_bytes.proofs.Kept.{Numbers, Lent, kept}
+
+-- lists of one length pass 3
+same-lengths : {n ys ms Ms : ℕ} → ys ≡ n → ms ≡ n → Ms ≡ n → lengths n ys ms Ms ≡ accepted
+unfolding lengths
+same-lengths {n} y m M = accepts-refuse 3 0 (rw (y, m, M, eq-eqb n n refl))
+
+module _ (K : Kind) (head : ℕ) where
+  -- ---- what was written
+
+  -- its check is the check of the lists
+  pub judged-alike : (c : Card) → head < 2 ^ 16 → Lent c → card-verdict K head (bytes-of head c) ≡ verdict K c
+  unfolding card-verdict card-order verdict _then_
+  judged-alike c small h =
+      let k = kept head c small h in
+      rw (k .card, whole-headed (k .whole), whole-recorded (k .whole), same-lengths (h .ordinates) (h .slopes) (h .curvatures))
+
+  -- lists of numbers of their types that are accepted have one length
+  lent : (c : Card) → K .most-knots < 2 ^ 16 → Numbers c → verdict K c ≡ accepted → Lent c
+  lent c few h e =
+      let g = good K c e in
+      record { numbers = h; count = omega (arith, g .many); ordinates = g .ys; slopes = g .ms; curvatures = g .Ms }
+
+  pub record Returned (c : Card) : Type 0 where
+    pub card : card-of (bytes-of head c) ≡ c
+    pub accepts : card-verdict K head (bytes-of head c) ≡ accepted
+
+  pub read-written : (c : Card) → head < 2 ^ 16 → K .most-knots < 2 ^ 16 → Numbers c → verdict K c ≡ accepted → Returned c
+  read-written c small few h e =
+      let l = lent c few h e in
+      record { card = kept head c small l .card; accepts = judged-alike c small l ∙ e }
+
+  -- ---- accepted bytes
+
+  module _ (s : List ℕ) (e : card-verdict K head s ≡ accepted) where
+    pub accepted-whole : Whole head s (count-at s)
+    unfolding card-verdict card-order
+    accepted-whole = whole (first-accepts _ _ e) (rw (knots-of s) at (first-accepts _ _ (next-accepts _ _ (next-accepts _ _ (next-accepts _ _ e)))))
+
+    pub accepted-card : verdict K (card-of s) ≡ accepted
+    unfolding card-verdict card-order verdict knots card-of
+    accepted-card =
+        let n = count-at s in
+        let e1 = next-accepts (head-due head s) _ e in
+        let e2 = next-accepts (counted K _) _ e1 in
+        let x = length-table (minute-at s) 0 n in
+        both-accept
+        (rw x (same-lengths (length-table (ordinate-at s) 0 n) (length-table (slope-at s) 0 n) (length-table (curvature-at s) 0 n)))
+        (both-accept (first-accepts _ _ e1) (both-accept (first-accepts _ _ e2) (next-accepts _ _ (next-accepts _ _ e2))))
+
+    -- the writer makes them again of the card that they hold
+    pub written-again : Bytes s → s ≡ bytes-of head (card-of s)
+    written-again b = made s b accepted-whole
+
+    pub accepted-size : length s ≡ size (knots (card-of s))
+    accepted-size = rw (knots-of s) (whole-size accepted-whole)
+
+    pub writer-accepts : write-order K (card-of s) (length s) ≡ accepted
+    unfolding write-order room
+    writer-accepts = both-accept accepted-card (accepts-refuse 26 0 (le-ltb (length s) (size (knots (card-of s))) (omega (arith, accepted-size))))
+
+    -- ---- demand 3 of the bytes
+
+    pub demand-3-of-bytes : 2 ≤ K .fewest-knots → Demand3 K (card-of s)
+    demand-3-of-bytes some = demand-3 K (card-of s) some accepted-card
+
+    pub reads-its-card : (minute : ℕ) → reading-order (card-verdict K head s) (card-of s) minute ≡ reading K (card-of s) minute
+    unfolding reading reading-order _then_
+    reads-its-card minute = rw (e, accepted-card)

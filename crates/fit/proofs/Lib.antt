@@ -1,0 +1,4 @@
+pub mod Fitting
+pub mod Order
+pub mod Held
+pub mod Worked

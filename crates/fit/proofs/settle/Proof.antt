@@ -1,0 +1,59 @@
+-- `fit::settle` meets its contract. Assumes nothing.
+use mathlib.Core.Path.{ap, _∙_}
+use lib.ListN.{take}
+use Rattle.answer.proofs.Chain.{goes-on, stops}
+use Rattle.fit.specs.Fit.{tested}
+use Rattle.fit.proofs.Fitting.{fits-along, fits-refused, fits-given}
+use borrow.Author.Needs.{needs}
+use Rattle.fit.proofs.settle.Statement.{statement}
+use Rattle.fit.proofs.settle.Tie as tie
+
+judge-requires : tie.Need-judge-requires
+judge-requires c κs = search needs
+
+enum-told : tie.Need-enum-told
+enum-told c = search needs
+
+write-requires : tie.Need-write-requires
+write-requires c κs = search needs
+
+write-requires-2 : tie.Need-write-requires-2
+write-requires-2 c κs = search needs
+
+enum-known-sound : tie.Need-enum-known-sound
+enum-known-sound c = search needs
+
+same-length : tie.Need-same-length
+same-length c = search needs
+
+same-length-2 : tie.Need-same-length-2
+same-length-2 c = search needs
+
+returns : tie.Need-returns
+unfolding tested
+returns c =
+    let s = c .before .before .before .before .before .before .before .before .before .before .before .before in
+    let x = s .args .numbers in
+    fits-along
+    (goes-on (c .before .before .before .before .before .before .before .before .before .before .judge .ensures) (c .before .before .before .before .before .before .before .before .enum-told .given .1))
+    (fits-given
+    (c .before .before .before .before .write .ensures ∙ ap (λ n. take n (x .slopes)) (s .pre .0 .slopes))
+    (c .before .write2 .ensures ∙ ap (λ n. take n (x .curvatures)) (s .pre .0 .curvatures)))
+
+returns-2 : tie.Need-returns-2
+unfolding tested
+returns-2 c = fits-along (stops (c .before .before .before .judge .ensures) _ (c .before .sound .given .1)) fits-refused
+
+pub settle-spec : {M : Type 1} → statement M
+settle-spec =
+    tie.close
+    (tie.spec
+    judge-requires
+    enum-told
+    write-requires
+    write-requires-2
+    enum-known-sound
+    same-length
+    same-length-2
+    returns
+    returns-2)

@@ -1,0 +1,52 @@
+-- `fit::solve` meets its contract. Assumes nothing.
+use mathlib.Core.Path.{ap, _∙_}
+use lib.ListN.{getD}
+use Rattle.rows.specs.Refusal.{both-finite}
+use Rattle.knots.proofs.Accepted.{stood}
+use Rattle.passes.specs.declared.Solved.{Solved}
+use Rattle.passes.specs.Back.{no-pair}
+use Rattle.passes.proofs.Answers.{pairs-finite}
+use Rattle.fit.proofs.Fitting.{fits-along, fits-refused}
+use Rattle.fit.proofs.Worked.{met, worked-out}
+use borrow.Author.Needs.{needs}
+use Rattle.fit.proofs.solve.Statement.{statement}
+use Rattle.fit.proofs.solve.Tie as tie
+
+pairs-of-requires : tie.Need-pairs-of-requires
+pairs-of-requires c κs = let s = c .before in ((s .pre .0 .many, s .pre .0 .ordinates), stood (s .pre .1) .rising)
+
+scale-requires : tie.Need-scale-requires
+scale-requires c κs =
+    let s = c .before .before .before .before .before in
+    let p = c .before .before .before .pairs-of in
+    (s .pre .0 .many, λ k h. ap (λ (q : Solved). both-finite (getD (q .pairs) k no-pair)) (p .ensures) ∙ pairs-finite _ _ _ k h)
+
+settle-requires : tie.Need-settle-requires
+settle-requires c κs = search needs
+
+same-length : tie.Need-same-length
+same-length c = search needs
+
+same-length-2 : tie.Need-same-length-2
+same-length-2 c = search needs
+
+returns : tie.Need-returns
+returns c =
+    let p = c .before .before .before .before .before .before .before .before .before .pairs-of in
+    let x = c .before .before .before .before .before .scale in
+    fits-along (worked-out _ _ _ _ (p .result) (p .ensures) (x .result) (c .before .before .before .before .before .before .before .if1 .taken) (x .ensures .0) (x .ensures .1)) (c .before .before .settle .ensures)
+
+returns-2 : tie.Need-returns-2
+returns-2 c = let p = c .before .before .pairs-of in fits-along (met _ _ _ _ (p .result) (p .ensures) (c .if1 .left)) fits-refused
+
+pub solve-spec : {M : Type 1} → statement M
+solve-spec =
+    tie.close
+    (tie.spec
+    pairs-of-requires
+    scale-requires
+    settle-requires
+    same-length
+    same-length-2
+    returns
+    returns-2)

@@ -1,0 +1,4 @@
+pub mod Held
+pub mod Scale
+pub mod Fields
+pub mod Cases
