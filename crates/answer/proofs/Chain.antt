@@ -1,6 +1,6 @@
 -- A step of an order as the code takes it: it answers a `Judged`, and where that is accepted, what follows.
 -- Assumes nothing.
-use mathlib.Core.Path.{_≡_, refl, sym, ap, _∙_}
+use mathlib.Core.Path.{_≡_, sym, ap, _∙_}
 use Prim.Native.Nat.{ℕ}
 use Rattle.answer.specs.Answer.{Answer, refused, Verdict, accepted, _then_}
 use Rattle.answer.specs.Judge.{verdict-of}
@@ -17,11 +17,4 @@ module _ {A : Type 0} {v : Verdict} {j : Judged} (b : Answer A) (e : verdict-of 
 
   pub step-passes : {a : Answer A} → j ≡ Accepted → a ≡ b → a ≡ (v then b)
   unfolding _then_
-  step-passes q f = f ∙ ap (λ u. u then b) (sym (step-accepts e q))
-
-module _ {j : Judged} {v : Verdict} (e : verdict-of j ≡ v) where
-  pub goes-on : {A : Type 0} {b : Answer A} → j ≡ Accepted → b ≡ (v then b)
-  goes-on {b = b} f = step-passes b e f refl
-
-  pub stops : {A : Type 0} (b : Answer A) {n p : ℕ} → j ≡ Refused n p → refused n p ≡ (v then b)
-  stops b f = step-refuses b e f
+  step-passes q f = f ∙ ap (λ u. u then b) (sym (ap verdict-of q) ∙ e)

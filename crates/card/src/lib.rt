@@ -251,14 +251,14 @@ fn writable(
     curvatures: &[i32],
     left: u16,
     right: u16,
-    room: usize,
+    bytes: usize,
 ) -> Judged
-    ensures { λ r. ⌜ verdict-of r ≡ write-order quintic (lent (now (minutes .entry)) (now (ordinates .entry)) (now (slopes .entry)) (now (curvatures .entry)) left right) room ⌝ }
+    ensures { λ r. ⌜ verdict-of r ≡ write-order quintic (lent (now (minutes .entry)) (now (ordinates .entry)) (now (slopes .entry)) (now (curvatures .entry)) left right) bytes ⌝ }
 {
     let kind = Kind::quintic();
     match judged(kind, minutes, ordinates, slopes, curvatures, left, right) {
         Judged::Refused(number, place) => Judged::Refused(number, place),
-        Judged::Accepted => knots::room(14 + 16 * minutes.len(), room),
+        Judged::Accepted => knots::room(14 + 16 * minutes.len(), bytes),
     }
 }
 

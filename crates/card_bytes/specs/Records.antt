@@ -35,5 +35,6 @@ records-due s n =
     each (knot-due s) 0 n
     then end-due s n
 
+-- "Card: head 14; 1, 2; 15; the other records 14; per knot 4, 5, 6; 9; 10." `head` is the kind of that kind of card's head.
 unfoldable pub card-verdict : Kind → ℕ → List ℕ → Verdict
 card-verdict K head s = card-order K (head-due head s) (records-due s (knots (card-of s))) (card-of s)

@@ -129,17 +129,17 @@ pub fn put_card(
 {
     let n = minutes.len();
     put_head(buffer, head, n as u16, left, right);
-    let mut i: usize = 0;
-    while i < n {
+    let mut row: usize = 0;
+    while row < n {
         put_knot(
             buffer,
-            10 + 16 * i,
-            minutes[i],
-            ordinates[i],
-            slopes[i],
-            curvatures[i],
+            10 + 16 * row,
+            minutes[row],
+            ordinates[row],
+            slopes[row],
+            curvatures[row],
         );
-        i += 1;
+        row += 1;
     }
     put_end(buffer, 10 + 16 * n);
 }

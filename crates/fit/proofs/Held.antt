@@ -1,13 +1,13 @@
 -- 9 and 10 answer alike of numbers that are held at the farthest number and of those without a limit, and where they accept, the two cards are one.
 -- For every kind whose limits are below the farthest number. Assumes nothing.
-use Prim.Native.Nat.{ℕ, _<_, _≤_, max}
+use Prim.Native.Nat.{ℕ, _<_, _≤_}
 use native.Mathlib.Omega.{arith}
 use mathlib.Core.Path.{_≡_, sym, ap, ap₂, _∙_}
 use mathlib.Core.Bool.{_||_}
 use mathlib.Core.List.{List}
 use lib.Dec.{lit<}
 use lib.IntN.{ℤ, pos, natAbs}
-use lib.ListN.{length, getD, take}
+use lib.ListN.{length, getD}
 use Rattle.whole.specs.Whole.{beyond}
 use Rattle.answer.specs.Answer.{given, accepted, refuse, each}
 use Rattle.answer.proofs.Steps.{then-same, each-same, first-accepts}
@@ -21,12 +21,7 @@ use Rattle.passes.specs.Passes.{listed}
 use Rattle.passes.proofs.Lists.{getD-listed, listed-same}
 use Rattle.units.specs.Units.{farthest, held}
 use Rattle.units.proofs.Held.{beyond-held, held-within}
-use Rattle.rows.specs.declared.End.{End}
-use Rattle.rows.specs.declared.Pair.{Pair}
-use Rattle.numbers.specs.declared.Numbers.{Numbers}
-use Rattle.numbers.specs.Numbers.{slope-at, curvature-at}
 use Rattle.fit.specs.Fit.{tested}
-use Rattle.fit.specs.Promise.{card-with}
 
 module _ (K : Kind) (near : K .slopes < farthest) (near′ : (gap : ℕ) → K .curvatures gap < farthest)
     (xs : List ℕ) (ys : List ℤ) (left right : ℕ) (P Q : ℕ → ℤ) where

@@ -2,3 +2,6 @@ pub mod Fitting
 pub mod Order
 pub mod Held
 pub mod Worked
+pub mod Card
+pub mod Outcome
+pub mod Table3

@@ -5,7 +5,7 @@ use mathlib.Core.Path.{_≡_, sym, ap, ap₂, _∙_}
 use mathlib.Core.List.{List}
 use lib.IntN.{ℤ}
 use lib.ListN.{length, take}
-use Rattle.answer.specs.Answer.{refused, accepted, _then_}
+use Rattle.answer.specs.Answer.{refused, _then_}
 use Rattle.answer.specs.Judge.{numbered}
 use Rattle.answer.proofs.Loops.{is-refused}
 use Rattle.knots.specs.Lent.{lent}

@@ -1,13 +1,117 @@
-// The boundary to C and Rust: one function for each thing a controller or a program asks, under a fixed name. A slice passes as a pointer and its length;
+// The boundary to C and Rust: one function for each thing that a controller or a program asks, under a fixed name. A slice passes as a pointer and its length;
 // an answer is a struct by value whose first fields are document 01's number and place, with zeros behind a refusal. None asks anything of its caller.
 ghost use mathlib.Core.Path.{_≡_};
+ghost use lib.ListN.{length};
+ghost use Rattle.curve.specs.Kind.{quintic};
+ghost use Rattle.curve.specs.Steps.{size};
+ghost use Rattle.curve.specs.Orders.{write-order};
 ghost use Rattle.curve.specs.Log.{mean};
-ghost use Rattle.log.specs.Answers.{answered as mean-answer};
+ghost use Rattle.knots.specs.Lent.{lent};
+ghost use Rattle.log.specs.Answers.{answered};
+ghost use Rattle.fit.specs.Fit.{fit, fit-codes};
+ghost use Rattle.fit.specs.Promise.{Fits};
+ghost use Rattle.card_bytes.specs.Bytes.{quintic-head, bytes-of};
+ghost use Rattle.card_bytes.specs.Held.{card-of};
+ghost use Rattle.card.specs.Answers.{own, into, checked, written, over, read-off};
 
 // The mean of a log that starts at a minute: 16, 12, 13.
 #[no_mangle]
 pub extern "C" fn kaihveto_mean(minute: u16, log: &[u8]) -> log::Mean
-    ensures { λ r. ⌜ r ≡ mean-answer (mean minute (now (log .entry))) ⌝ }
+    ensures { λ r. ⌜ r ≡ answered (mean minute (now (log .entry))) ⌝ }
 {
     log::mean_of(minute, log)
+}
+
+// Slopes and curvatures of the curve through the knots, without naming ends: 3, 1, 2; per knot 4, 5, 6; 8; 9; 10.
+#[no_mangle]
+pub extern "C" fn kaihveto_fit(
+    minutes: &[u16],
+    ordinates: &[i16],
+    slopes: &mut [i32],
+    curvatures: &mut [i32],
+) -> fit::Fitted
+    ensures { λ r. ⌜ Fits (fit (now (minutes .entry)) (now (ordinates .entry)) (length (now (slopes .entry))) (length (now (curvatures .entry)))) (now (slopes .entry)) (now (curvatures .entry)) (now (slopes .exit)) (now (curvatures .exit)) r ⌝ }
+{
+    fit::fit(minutes, ordinates, slopes, curvatures)
+}
+
+// The same between ends by their codes, with 15 after 2 and 7 after 6. Numbers that a code does not use are not looked at.
+#[no_mangle]
+pub extern "C" fn kaihveto_fit_ends(
+    minutes: &[u16],
+    ordinates: &[i16],
+    slopes: &mut [i32],
+    curvatures: &mut [i32],
+    left: u16,
+    left_slope: f64,
+    left_curvature: f64,
+    right: u16,
+    right_slope: f64,
+    right_curvature: f64,
+) -> fit::Fitted
+    ensures { λ r. ⌜ Fits (fit-codes (now (minutes .entry)) (now (ordinates .entry)) (length (now (slopes .entry))) (length (now (curvatures .entry))) left «left_slope» «left_curvature» right «right_slope» «right_curvature») (now (slopes .entry)) (now (curvatures .entry)) (now (slopes .exit)) (now (curvatures .exit)) r ⌝ }
+{
+    fit::fit_codes(
+        minutes,
+        ordinates,
+        slopes,
+        curvatures,
+        left,
+        left_slope,
+        left_curvature,
+        right,
+        right_slope,
+        right_curvature,
+    )
+}
+
+// A card's bytes, at the front of the buffer: 3, 1, 2, 15; per knot 4, 5, 6; 9; 10; 26.
+#[no_mangle]
+pub extern "C" fn kaihveto_write(
+    minutes: &[u16],
+    ordinates: &[i16],
+    slopes: &[i32],
+    curvatures: &[i32],
+    left: u16,
+    right: u16,
+    buffer: &mut [u8],
+) -> card::Written
+    ensures { λ r. ⌜ r ≡ written (write-order quintic (lent (now (minutes .entry)) (now (ordinates .entry)) (now (slopes .entry)) (now (curvatures .entry)) left right) (length (now (buffer .entry)))) (size (length (now (minutes .entry)))) ⌝ }
+    ensures { λ r. ⌜ now (buffer .exit) ≡ over (write-order quintic (lent (now (minutes .entry)) (now (ordinates .entry)) (now (slopes .entry)) (now (curvatures .entry)) left right) (length (now (buffer .entry)))) (bytes-of quintic-head (lent (now (minutes .entry)) (now (ordinates .entry)) (now (slopes .entry)) (now (curvatures .entry)) left right)) (now (buffer .entry)) ⌝ }
+{
+    card::write(minutes, ordinates, slopes, curvatures, left, right, buffer)
+}
+
+// The test of a card's bytes: head 14; 1, 2; 15; the other records 14; per knot 4, 5, 6; 9; 10.
+#[no_mangle]
+pub extern "C" fn kaihveto_check(card: &[u8]) -> card::Checked
+    ensures { λ r. ⌜ r ≡ checked (own (now (card .entry))) (card-of (now (card .entry))) ⌝ }
+{
+    card::check(card)
+}
+
+// A card's numbers, at the front of four lists: 3, the card's, 26.
+#[no_mangle]
+pub extern "C" fn kaihveto_read(
+    card: &[u8],
+    minutes: &mut [u16],
+    ordinates: &mut [i16],
+    slopes: &mut [i32],
+    curvatures: &mut [i32],
+) -> card::Checked
+    ensures { λ r. ⌜ r ≡ checked (into (now (minutes .entry)) (now (ordinates .entry)) (now (slopes .entry)) (now (curvatures .entry)) (now (card .entry))) (card-of (now (card .entry))) ⌝ }
+    ensures { λ r. ⌜ now (minutes .exit) ≡ over (into (now (minutes .entry)) (now (ordinates .entry)) (now (slopes .entry)) (now (curvatures .entry)) (now (card .entry))) (card-of (now (card .entry)) .minutes) (now (minutes .entry)) ⌝ }
+    ensures { λ r. ⌜ now (ordinates .exit) ≡ over (into (now (minutes .entry)) (now (ordinates .entry)) (now (slopes .entry)) (now (curvatures .entry)) (now (card .entry))) (card-of (now (card .entry)) .ordinates) (now (ordinates .entry)) ⌝ }
+    ensures { λ r. ⌜ now (slopes .exit) ≡ over (into (now (minutes .entry)) (now (ordinates .entry)) (now (slopes .entry)) (now (curvatures .entry)) (now (card .entry))) (card-of (now (card .entry)) .slopes) (now (slopes .entry)) ⌝ }
+    ensures { λ r. ⌜ now (curvatures .exit) ≡ over (into (now (minutes .entry)) (now (ordinates .entry)) (now (slopes .entry)) (now (curvatures .entry)) (now (card .entry))) (card-of (now (card .entry)) .curvatures) (now (curvatures .entry)) ⌝ }
+{
+    card::read(card, minutes, ordinates, slopes, curvatures)
+}
+
+// What a card reads at a minute: the card's, then 11.
+#[no_mangle]
+pub extern "C" fn kaihveto_reading(card: &[u8], minute: u16) -> lists::CardReading
+    ensures { λ r. ⌜ r ≡ read-off (now (card .entry)) minute ⌝ }
+{
+    card::reading(card, minute)
 }

@@ -10,8 +10,8 @@ use lib.Seq.{length-sets, take-append-seam}
 use Rattle.record.proofs.Stores.{then, drop-sets}
 use Rattle.listing.specs.Put.{Put}
 
-pub put-none : (text : List ℕ) (at : ℕ) → Put [] text text at at
-put-none text at = record { stored = refl; behind = rw add-zero }
+pub put-none : {text : List ℕ} {at : ℕ} → at ≤ length text → Put [] text text at at
+put-none h = record { stored = refl; behind = rw add-zero; inside = h }
 
 module _ {words text text′ : List ℕ} {at next : ℕ} (p : Put words text text′ at next) where
   pub same-room : length text′ ≡ length text
@@ -22,6 +22,7 @@ module _ {words text text′ : List ℕ} {at next : ℕ} (p : Put words text tex
       record {
         stored = then text at words words′ (length words) refl (p .stored) (rw (p .behind) at (q .stored));
         behind = q .behind ∙ rw (p .behind, length-append, add-assoc);
+        inside = rw same-room at (q .inside);
       }
 
   pub room-behind : (words′ : List ℕ) → at + length (words ++ words′) ≤ length text → next + length words′ ≤ length text′
@@ -37,7 +38,8 @@ pub one-outcome : {words text text′ text″ : List ℕ} {at next next′ : ℕ
 one-outcome p q = (p .stored ∙ sym (q .stored), p .behind ∙ sym (q .behind))
 
 -- what a program prints of a buffer at whose front words were put
-pub front : {words text text′ : List ℕ} {next : ℕ} → Put words text text′ 0 next → length words ≤ length text → take next text′ ≡ words
-front {words} {text} {text′} {next} p h =
+pub front : {words text text′ : List ℕ} {next : ℕ} → Put words text text′ 0 next → take next text′ ≡ words
+front {words} {text} {text′} {next} p =
     let e : next ≡ length words = p .behind ∙ zero-add (length words) in
+    let h : length words ≤ length text = rw e at (p .inside) in
     rw (e, p .stored ∙ drop-sets text 0 words (length words) (zero-add (length words)) h) (take-append-seam words (drop (length words) text))

@@ -126,7 +126,7 @@ fn accepted_line(text: &mut [u8], at: usize, knots: u32) -> usize
 }
 
 // "or one line `refused NUMBER at PLACE`".
-fn refused_line(text: &mut [u8], at: usize, number: u32, place: u32) -> usize
+pub fn refused_line(text: &mut [u8], at: usize, number: u32, place: u32) -> usize
     requires { ⌜ at + length (refused-line number place) ≤ length (now text) ⌝ }
     ensures { λ r. ⌜ Put (refused-line number place) (now (text .entry)) (now (text .exit)) at r ⌝ }
 {

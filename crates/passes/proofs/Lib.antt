@@ -2,4 +2,3 @@ pub mod Lists
 pub mod Runs
 pub mod Backs
 pub mod Answers
-pub mod Table3

@@ -12,7 +12,7 @@ use borrow.Author.Count.{below-more}
 use Rattle.passes.specs.Passes.{listed}
 
 module _ {A : Type 0} (P : ℕ → A) where
-  length-listed : (n : ℕ) → length (listed P n) ≡ n
+  pub length-listed : (n : ℕ) → length (listed P n) ≡ n
   length-listed zero = refl
   length-listed (suc n) = length-append (listed P n) (P n ∷ []) ∙ add-one (length (listed P n)) ∙ ap suc (length-listed n)
 

@@ -21,11 +21,11 @@ use Rattle.card_bytes.proofs.put_card.Statement.{statement}
 use Rattle.card_bytes.proofs.put_card.Tie as tie
 
 abbrev Inv-loop : tie.InvT-loop
-Inv-loop head minutes ordinates slopes curvatures left right buffer₀ n i₀ buffer i =
-    (i ≤ n) × (length buffer ≡ length buffer₀) × (buffer ≡ sets buffer₀ 10 (rows (knot-row (lent minutes ordinates slopes curvatures left right)) 0 i))
+Inv-loop head minutes ordinates slopes curvatures left right buffer₀ n row₀ buffer row =
+    (row ≤ n) × (length buffer ≡ length buffer₀) × (buffer ≡ sets buffer₀ 10 (rows (knot-row (lent minutes ordinates slopes curvatures left right)) 0 row))
 
 abbrev μ-loop : tie.MeasureT-loop
-μ-loop head minutes ordinates slopes curvatures left right buffer₀ n i₀ buffer i = n - i
+μ-loop head minutes ordinates slopes curvatures left right buffer₀ n row₀ buffer row = n - row
 
 loop-holds : tie.Need-loop-holds Inv-loop μ-loop
 unfolding rows
@@ -37,7 +37,7 @@ loop-again c =
     let e = c .before .before in
     let l = c .before .before .before .before .before .before .before .before .before in
     let a = l .before .before .before .before .before .before .before .args in
-    let i = l .loop .i in
+    let i = l .loop .row in
     let k = lent (now (a .minutes)) (now (a .ordinates)) (now (a .slopes)) (now (a .curvatures)) (a .left) (a .right) in
     let y = passed w16 (getD (k .ordinates) i (pos 0)) (e .before .before .before .put-knot-arg2 .given) in
     let m = passed w32 (getD (k .slopes) i (pos 0)) (e .before .before .put-knot-arg3 .given) in
@@ -55,7 +55,7 @@ returns c =
     let a = l .before .before .before .before .before .before .before .args in
     let n = length (now (a .minutes)) in
     let k = lent (now (a .minutes)) (now (a .ordinates)) (now (a .slopes)) (now (a .curvatures)) (a .left) (a .right) in
-    let e : l .loop .i ≡ n = omega arith in
+    let e : l .loop .row ≡ n = omega arith in
     let h = l .before .before .before .put-head in
     let p : l .loop .buffer ≡ sets (h .last .0) 10 (rows (knot-row k) 0 n) = rw e at (l .loop .inv .2) in
     then (now (a .buffer)) 0 (head-bytes (a .head) n (a .left) (a .right)) (rows (knot-row k) 0 n ++ end-bytes) 10 (length-head (a .head) n (a .left) (a .right)) (h .ensures)

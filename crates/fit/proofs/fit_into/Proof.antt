@@ -1,6 +1,6 @@
 -- `fit::fit_into` meets its contract. Assumes nothing.
-use Rattle.answer.proofs.Chain.{step-accepts, goes-on, stops}
-use mathlib.Core.Path.{_∙_}
+use Rattle.answer.proofs.Chain.{step-accepts, step-refuses, step-passes}
+use mathlib.Core.Path.{refl, _∙_}
 use Rattle.fit.proofs.Fitting.{fits-along, fits-refused}
 use Rattle.fit.proofs.Order.{in-groups, sized-alike}
 use borrow.Author.Needs.{needs}
@@ -28,10 +28,10 @@ same-length-2 c = search needs
 returns : tie.Need-returns
 returns c =
     let s = c .before .before .before .before .before .before .before in
-    fits-along (goes-on (s .sized .ensures) (c .before .before .before .before .before .enum-told .given .1) ∙ in-groups _ _ _ _ _ _ _) (c .before .before .stand-and-solve .ensures)
+    fits-along (step-passes _ (s .sized .ensures) (c .before .before .before .before .before .enum-told .given .1) refl ∙ in-groups _ _ _ _ _ _ _) (c .before .before .stand-and-solve .ensures)
 
 returns-2 : tie.Need-returns-2
-returns-2 c = fits-along (stops (c .before .before .before .sized .ensures) _ (c .before .sized2 .given .1) ∙ in-groups _ _ _ _ _ _ _) fits-refused
+returns-2 c = fits-along (step-refuses _ (c .before .before .before .sized .ensures) (c .before .sized2 .given .1) ∙ in-groups _ _ _ _ _ _ _) fits-refused
 
 pub fit-into-spec : {M : Type 1} → statement M
 fit-into-spec =

@@ -1,7 +1,7 @@
 -- `fit::settle` meets its contract. Assumes nothing.
-use mathlib.Core.Path.{ap, _∙_}
+use mathlib.Core.Path.{refl, ap, _∙_}
 use lib.ListN.{take}
-use Rattle.answer.proofs.Chain.{goes-on, stops}
+use Rattle.answer.proofs.Chain.{step-refuses, step-passes}
 use Rattle.fit.specs.Fit.{tested}
 use Rattle.fit.proofs.Fitting.{fits-along, fits-refused, fits-given}
 use borrow.Author.Needs.{needs}
@@ -29,20 +29,20 @@ same-length c = search needs
 same-length-2 : tie.Need-same-length-2
 same-length-2 c = search needs
 
+returns-2 : tie.Need-returns-2
+unfolding tested
+returns-2 c = fits-along (step-refuses _ (c .before .before .before .judge .ensures) (c .before .sound .given .1)) fits-refused
+
 returns : tie.Need-returns
 unfolding tested
 returns c =
     let s = c .before .before .before .before .before .before .before .before .before .before .before .before in
     let x = s .args .numbers in
     fits-along
-    (goes-on (c .before .before .before .before .before .before .before .before .before .before .judge .ensures) (c .before .before .before .before .before .before .before .before .enum-told .given .1))
+    (step-passes _ (c .before .before .before .before .before .before .before .before .before .before .judge .ensures) (c .before .before .before .before .before .before .before .before .enum-told .given .1) refl)
     (fits-given
     (c .before .before .before .before .write .ensures ∙ ap (λ n. take n (x .slopes)) (s .pre .0 .slopes))
     (c .before .write2 .ensures ∙ ap (λ n. take n (x .curvatures)) (s .pre .0 .curvatures)))
-
-returns-2 : tie.Need-returns-2
-unfolding tested
-returns-2 c = fits-along (stops (c .before .before .before .judge .ensures) _ (c .before .sound .given .1)) fits-refused
 
 pub settle-spec : {M : Type 1} → statement M
 settle-spec =

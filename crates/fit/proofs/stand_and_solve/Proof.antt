@@ -1,8 +1,8 @@
 -- `fit::stand_and_solve` meets its contract. Assumes nothing.
-use mathlib.Core.Path.{_≡_, ap₂, _∙_}
+use mathlib.Core.Path.{_≡_, refl, ap₂, _∙_}
 use Rattle.answer.specs.Answer.{_then_}
 use Rattle.answer.specs.Judge.{verdict-of}
-use Rattle.answer.proofs.Chain.{step-accepts, goes-on, stops}
+use Rattle.answer.proofs.Chain.{step-accepts, step-refuses, step-passes}
 use Rattle.fit.specs.Fit.{standing}
 use Rattle.fit.proofs.Fitting.{fits-along, fits-refused}
 use Rattle.fit.proofs.Order.{stood-first}
@@ -39,10 +39,10 @@ same-length-2 : tie.Need-same-length-2
 same-length-2 c = search needs
 
 returns : tie.Need-returns
-returns c = fits-along (goes-on (stood-is (c .before .before .before .before .before .before .before)) (c .before .before .before .before .before .enum-told .given .1)) (c .before .before .solve .ensures)
+returns c = fits-along (step-passes _ (stood-is (c .before .before .before .before .before .before .before)) (c .before .before .before .before .before .enum-told .given .1) refl) (c .before .before .solve .ensures)
 
 returns-2 : tie.Need-returns-2
-returns-2 c = fits-along (stops (stood-is (c .before .before .before)) _ (c .before .stood .given .1)) fits-refused
+returns-2 c = fits-along (step-refuses _ (stood-is (c .before .before .before)) (c .before .stood .given .1)) fits-refused
 
 pub stand-and-solve-spec : {M : Type 1} → statement M
 stand-and-solve-spec =

@@ -26,7 +26,7 @@ abbrev μ-loop : tie.MeasureT-loop
 
 loop-holds : tie.Need-loop-holds Inv-loop μ-loop
 unfolding lines
-loop-holds c = (omega arith, put-none _ _)
+loop-holds c = (omega arith, put-none (omega arith))
 
 -- the numbers of the lists, as a call passes them on
 line-is : (c : tie.After-knot-line-arg4 Inv-loop μ-loop)

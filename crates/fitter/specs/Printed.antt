@@ -1,0 +1,30 @@
+-- What the fitter prints for the bytes of its input: document 01, "Two programs". It "reads records", "and fits with free ends".
+-- Assumes nothing.
+use Prim.Native.Nat.{ℕ}
+use mathlib.Core.Bool.{cond}
+use mathlib.Core.List.{List}
+use lib.Dec.{eqb}
+use lib.IntN.{ℤ, pos}
+use lib.ListN.{length, take, replicate}
+use Rattle.answer.specs.Answer.{Answer, number, place}
+use Rattle.curve.specs.Card.{Card}
+use Rattle.listing.specs.Text.{refused-line, listing}
+use Rattle.sheet.specs.Sheet.{sheet}
+use Rattle.fit.specs.Fit.{fit}
+use Rattle.fit.specs.Promise.{slopes-after, curvatures-after}
+
+-- of a fit between these knots, whose slopes and curvatures go over two lent lists
+unfoldable pub listing-by : Answer Card → (xs : List ℕ) (ys ms Ms : List ℤ) → List ℕ
+listing-by f xs ys ms Ms = listing (number f) (place f) xs ys (slopes-after f ms) (curvatures-after f Ms)
+
+unfoldable pub fit-listing : (xs : List ℕ) (ys ms Ms : List ℤ) → List ℕ
+fit-listing xs ys ms Ms = listing-by (fit xs ys (length ms) (length Ms)) xs ys ms Ms
+
+abbrev zeros : ℕ → List ℤ
+zeros n = replicate n (pos 0)
+
+unfoldable pub printed : List ℕ → List ℕ
+printed s =
+    let a = sheet s in
+    let n = a .knots in
+    cond (eqb (a .number) 0) (fit-listing (take n (a .minutes)) (take n (a .ordinates)) (take n (zeros 65)) (take n (zeros 65))) (refused-line (a .number) (a .place))
