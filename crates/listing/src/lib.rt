@@ -42,7 +42,7 @@ fn put_decimal(text: &mut [u8], at: usize, number: u32) -> usize
 }
 
 // The negative numbers reach one further than the others, so one goes by its complement.
-fn magnitude(number: i32) -> u32
+pub fn magnitude(number: i32) -> u32
     ensures { λ r. ⌜ r ≡ natAbs number ⌝ }
 {
     if number < 0 {

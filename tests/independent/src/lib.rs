@@ -10,6 +10,7 @@ pub mod compare;
 pub mod curves;
 #[cfg(linked)]
 pub mod groups;
+pub mod lines;
 pub mod random;
 pub mod reference;
 pub mod vectors;

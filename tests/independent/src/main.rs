@@ -1,5 +1,6 @@
 //! Without words: compares the library with the reference on many inputs, and ends with 1 where they differ.
 //! `vectors DIR`: runs the reference alone on the vectors of the two programs.
+//! `cases`: prints the lines of the program `cases`, from the reference alone.
 
 use std::path::Path;
 use std::process::ExitCode;
@@ -28,8 +29,12 @@ fn main() -> ExitCode {
     let good = match words[..] {
         [] => compare(),
         ["vectors", folder] => vectors(folder),
+        ["cases"] => {
+            print!("{}", independent::lines::all());
+            true
+        }
         _ => {
-            eprintln!("usage: independent [vectors DIR]");
+            eprintln!("usage: independent [vectors DIR | cases]");
             return ExitCode::from(2);
         }
     };

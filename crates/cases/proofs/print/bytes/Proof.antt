@@ -1,0 +1,29 @@
+-- `cases::print::bytes` is safe. Assumes nothing.
+use Prim.Native.Nat.{_-_, _≤_}
+use lib.ListN.{length}
+use borrow.Author.Needs.{needs}
+use Rattle.cases.proofs.print.bytes.Statement.{statement}
+use Rattle.cases.proofs.print.bytes.Tie as tie
+
+abbrev Inv-loop : tie.InvT-loop
+Inv-loop list i₀ i = i ≤ length list
+
+abbrev μ-loop : tie.MeasureT-loop
+μ-loop list i₀ i = length list - i
+
+pub bytes-spec : {M : Type 1} → statement M
+bytes-spec =
+    tie.close
+    (tie.spec
+    Inv-loop
+    μ-loop
+    (λ c. search needs)
+    (λ c κs. search needs)
+    (λ c. search needs)
+    (λ c κs. search needs)
+    (λ c κs. search needs)
+    (λ c. search needs)
+    (λ c. search needs)
+    (λ c. search needs)
+    (λ c κs. search needs)
+    (λ c. search needs))

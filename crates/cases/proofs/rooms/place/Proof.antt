@@ -1,0 +1,24 @@
+-- `cases::rooms::place` is safe: an ordinate fits the wider type. Assumes nothing.
+use mir.Facts.{toZ-ofZ, sfits-widen}
+use borrow.Author.Needs.{needs}
+use Rattle.cases.proofs.rooms.place.Statement.{statement}
+use Rattle.cases.proofs.rooms.place.Tie as tie
+
+cast-named : tie.Need-cast-named
+cast-named c =
+    let f = c .before .before .before .fits .ordinate in
+    rw (toZ-ofZ f) (sfits-widen tt f)
+
+pub place-spec : {M : Type 1} → statement M
+place-spec =
+    tie.close
+    (tie.spec
+    (λ c κs. search needs)
+    (λ c. search needs)
+    cast-named
+    (λ c κs. search needs)
+    (λ c. search needs)
+    (λ c κs. search needs)
+    (λ c. search needs)
+    (λ c κs. search needs)
+    (λ c. search needs))
