@@ -1,23 +1,22 @@
 -- What lists that 4, 5, 6 and 9 accept give to the curve's arithmetic: each knot and each gap keeps within the limits that it asks for, and what the code
 -- finds at a knot is what document 01 asks there.
 -- Assumes nothing.
-use mathlib.Core.Path.{_≡_, refl, sym, _∙_, ap, subst}
+use mathlib.Core.Path.{_≡_, refl, sym, _∙_, ap, ap₂, subst}
 use mathlib.Core.Logic.{_⊎_, ⊎-elim}
-use mathlib.Core.Bool.{Bool, true, false, not, _&&_, cond}
+use mathlib.Core.Bool.{Bool, true, false, _&&_, cond}
 use mathlib.Core.List.{List}
-use Prim.Native.Nat.{ℕ, zero, suc, _+_, _-_, _≤_, _<_, _^_, min}
+use Prim.Native.Nat.{ℕ, zero, suc, _+_, _-_, _≤_, _<_, min}
 use native.Mathlib.Nat.{eq-or-lt-of-le, le-of-lt}
 use native.Mathlib.Numerals.{add-one}
 use native.Mathlib.Omega.{arith}
 use lib.Dec.{eqb}
 use lib.IntN.{ℤ, pos, natAbs}
 use lib.ListN.{length, getD}
-use lib.Signed.{leZ}
 use Rattle.curve.specs.Formula.{Formula, nat}
 use Rattle.curve.specs.Curve.{allowance}
 use Rattle.curve.specs.Kind.{quintic, quintic-asks, inner, end}
 use Rattle.curve.specs.Card.{Card, knot, knots, gap, back, on, spot, joint}
-use Rattle.curve.specs.Jump.{jump, allowed, jumps}
+use Rattle.curve.specs.Jump.{jumps}
 use Rattle.curve.specs.Reading.{gap-of}
 use Rattle.curve.specs.Steps.{outside}
 use Rattle.curve.proofs.Gap.{IsGap, gap-is, in-card}
@@ -29,11 +28,12 @@ use Rattle.knots.proofs.Accepted.{Stood, stood, Ranged, ranged, right-narrow, p
 use Rattle.gaps.specs.declared.Knot.{Knot}
 use Rattle.gaps.specs.declared.Order.{Order}
 use Rattle.gaps.specs.declared.Order.the-variants.{Third, Fourth}
-use Rattle.gaps.specs.Sides.{order-of, jump-of, allowing, leeways, past}
-use Rattle.gaps.specs.Limits.{In-gap, Keeps, Tame, Tried, limits}
+use Rattle.gaps.specs.Sides.{order-of, allowing}
+use Rattle.gaps.specs.Limits.{In-gap, Keeps, Tame, limits}
 use Rattle.gaps.proofs.JumpIs.{jumps-is}
 use Rattle.gaps.proofs.OfKinds.{quintic-readable, quintic-testable, lower, in-gap, tame, keeps, tried}
-use Rattle.lists.specs.Lists.{Checked, In-place, numbers-at, code-of, square-of}
+use Rattle.lists.specs.declared.Joint.{Joint}
+use Rattle.lists.specs.Lists.{Checked, In-place, numbers-at, code-of, square-of, joint-at, Tested, jumps-of}
 
 module _ {xs : List ℕ} {ys ms cs : List ℤ} (k : Checked xs ys ms cs) where
   stands-there : Stood quintic xs ys
@@ -61,7 +61,7 @@ module _ {xs : List ℕ} {ys ms cs : List ℤ} (k : Checked xs ys ms cs) where
     after-keeps = keeps-by (right-gap xs i) after (omega arith) (curvature-after (lower quintic quintic-readable) stands-there in-range-there i l)
 
     -- what `gaps::jumps` asks
-    pub settled-knot : (square : ℕ) → square ≤ 2 ^ 8 → Tried (pos square) (pos (left-gap xs i)) (pos (right-gap xs i)) (numbers (back i)) (numbers i) (numbers after)
+    pub settled-knot : Tested (joint-at xs ys ms cs i)
     unfolding back
     settled-knot square s =
         tried quintic quintic-testable square (left-gap xs i) (right-gap xs i) (numbers (back i)) (numbers i) (numbers after)
@@ -132,10 +132,6 @@ module _ (kind : Kind) (o : Order) (left right : ℕ) (xs : List ℕ) (ys ms cs 
       go Third false false = refl
       go Fourth false false = refl
 
-  pub not-asked : kind-of kind .asks (end (code-of left right (length xs) i)) (order-of o) ≡ false → jumps (kind-of kind) (joint card i) (order-of o) ≡ false
-  unfolding jumps joint
-  not-asked e = ap (λ b. b && not (leZ (pos (natAbs (jump (order-of o) (knot card (back i)) (knot card i) (knot card (on card i))))) (allowed (kind-of kind) (order-of o) (knot card (back i)) (knot card i) (knot card (on card i))))) (asked-as ∙ e)
-
   allows : (g : ℕ → Formula ℤ) → kind-of kind .allowance (order-of o) g ≡ allowing (nat (square-of kind o)) o g
   unfolding allowance allowing
   allows g = go o
@@ -144,13 +140,13 @@ module _ (kind : Kind) (o : Order) (left right : ℕ) (xs : List ℕ) (ys ms cs 
       go Third = refl
       go Fourth = refl
 
-  pub asked-jumps : Checked xs ys ms cs → i < length xs → kind-of kind .asks (end (code-of left right (length xs) i)) (order-of o) ≡ true
-      → past (jump-of o (pos (left-gap xs i)) (pos (right-gap xs i)) (numbers-at ys ms cs (back i)) (numbers-at ys ms cs i) (numbers-at ys ms cs (min (i + 1) (length xs - 1)))) (leeways o (pos (square-of kind o)) (pos (left-gap xs i)) (pos (right-gap xs i)))
-      ≡ jumps (kind-of kind) (joint card i) (order-of o)
+  pub asked-jumps : (code : ℕ) (j : Joint) → code ≡ code-of left right (length xs) i → j ≡ joint-at xs ys ms cs i → Checked xs ys ms cs → i < length xs
+      → (kind-of kind .asks (end code) (order-of o) && jumps-of kind o j) ≡ jumps (kind-of kind) (joint card i) (order-of o)
   unfolding jumps joint knot knots gap on
-  asked-jumps k l e =
-      jumps-is o (knot card (back i)) (knot card i) (knot card (on card i)) (level-right k i l) (level-left k i l) (kind-of kind) (square-of kind o) allows
-      ∙ ap (λ b. b && not (leZ (pos (natAbs (jump (order-of o) (knot card (back i)) (knot card i) (knot card (on card i))))) (allowed (kind-of kind) (order-of o) (knot card (back i)) (knot card i) (knot card (on card i))))) (sym (asked-as ∙ e))
+  asked-jumps code j e f k l =
+      ap₂ (λ code j. kind-of kind .asks (end code) (order-of o) && jumps-of kind o j) e f
+      ∙ ap₂ _&&_ (sym asked-as)
+      (jumps-is o (knot card (back i)) (knot card i) (knot card (on card i)) (level-right k i l) (level-left k i l) (kind-of kind) (square-of kind o) allows)
 
 -- ---- the gap of a minute that 11 accepts
 

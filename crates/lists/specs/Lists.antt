@@ -1,22 +1,25 @@
 -- What is said of lent lists here: that their lengths agree, that 4, 5, 6 and 9 accept them; a knot's numbers and code; and the answer of a reading.
 -- Document 01, "Numbers of refusal", "The jump test", "The exact curve". Assumes nothing.
 use mathlib.Core.Path.{_≡_}
-use mathlib.Core.Bool.{cond}
+use mathlib.Core.Bool.{Bool, cond}
 use mathlib.Core.List.{List}
-use Prim.Native.Nat.{ℕ, suc, _+_, _-_, _≤_, _<_, _^_}
+use Prim.Native.Nat.{ℕ, suc, _+_, _-_, _≤_, _<_, _^_, min}
 use lib.Dec.{eqb}
 use lib.IntN.{ℤ, pos}
 use lib.ListN.{length, getD}
 use Rattle.answer.specs.Answer.{Answer, refused, given, accepted, each}
 use Rattle.curve.specs.Kind.{quintic}
-use Rattle.curve.specs.Card.{Card, knot}
+use Rattle.curve.specs.Card.{Card, knot, back}
 use Rattle.curve.specs.Reading.{Reading, reads}
 use Rattle.curve.specs.Steps.{stands, in-range}
 use Rattle.knots.specs.declared.Kind.{Kind}
-use Rattle.knots.specs.Lent.{lent}
+use Rattle.knots.specs.Lent.{lent, left-gap, right-gap}
 use Rattle.gaps.specs.declared.Knot.{Knot}
 use Rattle.gaps.specs.declared.Order.{Order}
 use Rattle.gaps.specs.declared.Order.the-variants.{Third, Fourth}
+use Rattle.gaps.specs.Sides.{jump-of, leeways, past}
+use Rattle.gaps.specs.Limits.{Tried}
+use Rattle.lists.specs.declared.Joint.{Joint}
 use Rattle.lists.specs.declared.CardReading.{CardReading}
 
 -- places fit the answers' 32 bits
@@ -49,6 +52,19 @@ code-of left right n i = cond (eqb i 0) left (cond (eqb (suc i) n) right 0)
 abbrev pub square-of : Kind → Order → ℕ
 square-of k Third = k .squares
 square-of k Fourth = 20
+
+-- a knot between its neighbours, and the gaps beside it
+abbrev pub joint-at : (xs : List ℕ) (ys ms cs : List ℤ) → ℕ → Joint
+joint-at xs ys ms cs i =
+    let numbers = numbers-at ys ms cs in
+    record { left = pos (left-gap xs i); right = pos (right-gap xs i); before = numbers (back i); here = numbers i; after = numbers (min (i + 1) (length xs - 1)) }
+
+-- what the jump test asks of them, whatever its first number, and what it finds
+abbrev pub Tested : Joint → Type 0
+Tested j = (square : ℕ) → square ≤ 2 ^ 8 → Tried (pos square) (j .left) (j .right) (j .before) (j .here) (j .after)
+
+abbrev pub jumps-of : Kind → Order → Joint → Bool
+jumps-of k o j = past (jump-of o (j .left) (j .right) (j .before) (j .here) (j .after)) (leeways o (pos (square-of k o)) (j .left) (j .right))
 
 -- what is read of the gap from place i
 abbrev pub spell-of : Card → ℕ → ℕ → Reading

@@ -1,20 +1,19 @@
 // What stands on lent lists and needs the curve's arithmetic: 10 knot by knot, the orders of 9 and 10, and the reading at a minute.
 // Document 01, "Numbers of refusal" and "The exact curve". The lists are minutes, ordinates, slopes and curvatures.
 ghost use mathlib.Core.Path.{_≡_};
+ghost use mathlib.Core.Bool.{_&&_};
 ghost use Prim.Native.Nat.{ℕ, _+_, _<_, _≤_, _^_};
 ghost use lib.ListN.{length};
 ghost use lib.IntN.{pos};
 ghost use Rattle.answer.specs.Answer.{accepted, refused, given, each};
 ghost use Rattle.answer.specs.Judge.{verdict-of, numbered};
 ghost use Rattle.curve.specs.Kind.{quintic, end};
-ghost use Rattle.curve.specs.Card.{joint};
-ghost use Rattle.curve.specs.Jump.{jumps};
 ghost use Rattle.curve.specs.Steps.{stands, smooth};
 ghost use Rattle.curve.specs.Orders.{numbers-sound, sound, reading-order};
 ghost use Rattle.knots.specs.Kinds.{kind-of};
 ghost use Rattle.knots.specs.Lent.{lent};
 ghost use Rattle.gaps.specs.Sides.{order-of};
-ghost use Rattle.lists.specs.Lists.{Long, Checked, In-place, numbers-at, code-of, square-of, spell-of, answered};
+ghost use Rattle.lists.specs.Lists.{Long, Checked, In-place, numbers-at, code-of, square-of, joint-at, Tested, jumps-of, spell-of, answered};
 
 // ---- 10
 
@@ -74,28 +73,50 @@ fn square(kind: knots::Kind, order: gaps::Order) -> i64
     }
 }
 
-// Whether a derivative jumps at a knot where its code asks for it.
-fn jumps_at(
-    kind: knots::Kind,
-    order: gaps::Order,
-    code: u16,
-    xs: &[u16],
-    ys: &[i16],
-    ms: &[i32],
-    cs: &[i32],
-    i: usize,
-) -> bool
-    requires { ⌜ Checked (now xs) (now ys) (now ms) (now cs) ⌝ }
+// What the jump test reads at a knot: the gaps on its left and right, its numbers and its neighbours'.
+struct Joint {
+    left: i64,
+    right: i64,
+    before: gaps::Knot,
+    here: gaps::Knot,
+    after: gaps::Knot,
+}
+
+// Read once for both derivatives.
+fn joint_at(xs: &[u16], ys: &[i16], ms: &[i32], cs: &[i32], i: usize) -> Joint
+    requires { ⌜ Long (now xs) (now ys) (now ms) (now cs) ⌝ }
     requires { ⌜ i < length (now xs) ⌝ }
-    ensures { λ r. ⌜ ((left right : ℕ) → code ≡ code-of left right (length (now (xs .entry))) i → r ≡ jumps (kind-of kind) (joint (lent (now (xs .entry)) (now (ys .entry)) (now (ms .entry)) (now (cs .entry)) left right) i) (order-of order)) ⌝ }
+    ensures { λ r. ⌜ r ≡ joint-at (now (xs .entry)) (now (ys .entry)) (now (ms .entry)) (now (cs .entry)) i ⌝ }
+{
+    let before = knot_at(ys, ms, cs, knots::back(i));
+    let here = knot_at(ys, ms, cs, i);
+    let after = knot_at(ys, ms, cs, knots::on(xs.len(), i));
+    let left = knots::left_gap(xs, i) as i64;
+    let right = knots::right_gap(xs, i) as i64;
+    Joint {
+        left,
+        right,
+        before,
+        here,
+        after,
+    }
+}
+
+// Whether a derivative jumps at a knot where its code asks for it.
+fn jumps_at(kind: knots::Kind, order: gaps::Order, code: u16, joint: Joint) -> bool
+    requires { ⌜ Tested joint ⌝ }
+    ensures { λ r. ⌜ r ≡ (kind-of kind .asks (end code) (order-of order) && jumps-of kind order joint) ⌝ }
 {
     if asks(kind, order, code) {
-        let before = knot_at(ys, ms, cs, knots::back(i));
-        let here = knot_at(ys, ms, cs, i);
-        let after = knot_at(ys, ms, cs, knots::on(xs.len(), i));
-        let q = knots::left_gap(xs, i) as i64;
-        let h = knots::right_gap(xs, i) as i64;
-        return gaps::jumps(order, square(kind, order), q, h, before, here, after);
+        return gaps::jumps(
+            order,
+            square(kind, order),
+            joint.left,
+            joint.right,
+            joint.before,
+            joint.here,
+            joint.after,
+        );
     }
     false
 }
@@ -116,10 +137,11 @@ fn rough_at(
     ensures { λ r. ⌜ smooth (kind-of kind) (lent (now (xs .entry)) (now (ys .entry)) (now (ms .entry)) (now (cs .entry)) left right) i ≡ numbered r i ⌝ }
 {
     let code = code_at(left, right, xs.len(), i);
-    if jumps_at(kind, gaps::Order::Third, code, xs, ys, ms, cs, i) {
+    let joint = joint_at(xs, ys, ms, cs, i);
+    if jumps_at(kind, gaps::Order::Third, code, joint) {
         return 10;
     }
-    if jumps_at(kind, gaps::Order::Fourth, code, xs, ys, ms, cs, i) {
+    if jumps_at(kind, gaps::Order::Fourth, code, joint) {
         return 10;
     }
     0
