@@ -24,13 +24,13 @@ pub struct End {
 }
 
 impl Codes {
-    pub fn free() -> Codes {
+    pub(crate) fn free() -> Codes {
         Codes { left: 0, right: 0 }
     }
 }
 
 impl End {
-    pub fn free() -> End {
+    pub(crate) fn free() -> End {
         End {
             code: 0,
             slope: 0.0,
@@ -41,7 +41,7 @@ impl End {
 
 impl Three {
     // Ordinates all alike.
-    pub fn level(minutes: [u16; 3], ordinate: i16) -> Three {
+    pub(crate) fn level(minutes: [u16; 3], ordinate: i16) -> Three {
         Three {
             minutes,
             ordinates: [ordinate; 3],
@@ -51,7 +51,7 @@ impl Three {
     }
 
     // Ordinates of 0.
-    pub fn flat(minutes: [u16; 3], slopes: [i32; 3], curvatures: [i32; 3]) -> Three {
+    pub(crate) fn flat(minutes: [u16; 3], slopes: [i32; 3], curvatures: [i32; 3]) -> Three {
         Three {
             minutes,
             ordinates: [0; 3],
@@ -61,7 +61,7 @@ impl Three {
     }
 
     // P7's card, and the same from minute 5 and below 0.
-    pub fn rising() -> Three {
+    pub(crate) fn rising() -> Three {
         Three {
             minutes: [0, 2, 4],
             ordinates: [0, 1, 2],
@@ -70,7 +70,7 @@ impl Three {
         }
     }
 
-    pub fn from_5() -> Three {
+    pub(crate) fn from_5() -> Three {
         Three {
             minutes: [5, 7, 9],
             ordinates: [0, 1, 2],
@@ -79,7 +79,7 @@ impl Three {
         }
     }
 
-    pub fn falling() -> Three {
+    pub(crate) fn falling() -> Three {
         Three {
             minutes: [0, 2, 4],
             ordinates: [0, -1, -2],
@@ -89,7 +89,7 @@ impl Three {
     }
 
     // Its bytes, free at both ends.
-    pub fn bytes(self) -> [u8; 62] {
+    pub(crate) fn bytes(self) -> [u8; 62] {
         let minutes = self.minutes;
         let ordinates = self.ordinates;
         let slopes = self.slopes;
@@ -134,7 +134,7 @@ fn put(
 }
 
 // Lists to the writer and, as bytes whatever they hold, to the card test; lent as many bytes as the card has.
-pub fn card_of(
+pub(crate) fn card_of(
     label: &[u8],
     minutes: &[u16],
     ordinates: &[i16],
@@ -160,7 +160,7 @@ pub fn card_of(
     print::end();
 }
 
-pub fn card(label: &[u8], three: Three, codes: Codes) {
+pub(crate) fn card(label: &[u8], three: Three, codes: Codes) {
     let minutes = three.minutes;
     let ordinates = three.ordinates;
     let slopes = three.slopes;
@@ -178,7 +178,7 @@ pub fn card(label: &[u8], three: Three, codes: Codes) {
 }
 
 // Free at both ends.
-pub fn free_card(label: &[u8], three: Three) {
+pub(crate) fn free_card(label: &[u8], three: Three) {
     card(label, three, Codes::free());
 }
 
@@ -188,7 +188,13 @@ fn fitted(label: &[u8], number: u32, place: u32) {
     print::end();
 }
 
-pub fn fit_between(label: &[u8], minutes: [u16; 3], ordinates: [i16; 3], left: End, right: End) {
+pub(crate) fn fit_between(
+    label: &[u8],
+    minutes: [u16; 3],
+    ordinates: [i16; 3],
+    left: End,
+    right: End,
+) {
     let mut slopes = [0i32; 3];
     let mut curvatures = [0i32; 3];
     let answer = fit::fit_codes(
@@ -206,7 +212,7 @@ pub fn fit_between(label: &[u8], minutes: [u16; 3], ordinates: [i16; 3], left: E
     fitted(label, answer.number, answer.place);
 }
 
-pub fn fit_into(
+pub(crate) fn fit_into(
     label: &[u8],
     minutes: &[u16],
     ordinates: &[i16],
@@ -217,14 +223,14 @@ pub fn fit_into(
     fitted(label, answer.number, answer.place);
 }
 
-pub fn fit_five(label: &[u8], minutes: [u16; 5], ordinates: [i16; 5]) {
+pub(crate) fn fit_five(label: &[u8], minutes: [u16; 5], ordinates: [i16; 5]) {
     let mut slopes = [0i32; 5];
     let mut curvatures = [0i32; 5];
     fit_into(label, &minutes, &ordinates, &mut slopes, &mut curvatures);
 }
 
 // The same knots to a card and to a fit.
-pub fn both(label: &[u8], three: Three) {
+pub(crate) fn both(label: &[u8], three: Three) {
     free_card(label, three);
     let minutes = three.minutes;
     let ordinates = three.ordinates;
@@ -233,7 +239,7 @@ pub fn both(label: &[u8], three: Three) {
     fit_into(label, &minutes, &ordinates, &mut slopes, &mut curvatures);
 }
 
-pub fn mean(label: &[u8], minute: u16, log: &[u8]) {
+pub(crate) fn mean(label: &[u8], minute: u16, log: &[u8]) {
     let mean = log::mean_of(minute, log);
     print::label(label);
     if mean.number == 0 {
@@ -246,7 +252,7 @@ pub fn mean(label: &[u8], minute: u16, log: &[u8]) {
     print::end();
 }
 
-pub fn reading(label: &[u8], card: &[u8], minute: u16) {
+pub(crate) fn reading(label: &[u8], card: &[u8], minute: u16) {
     let reading = card::reading(card, minute);
     print::label(label);
     if reading.number == 0 {
@@ -259,7 +265,7 @@ pub fn reading(label: &[u8], card: &[u8], minute: u16) {
     print::end();
 }
 
-pub fn check(label: &[u8], card: &[u8]) {
+pub(crate) fn check(label: &[u8], card: &[u8]) {
     let checked = card::check(card);
     print::label(label);
     print::judged(b"check ", checked.number, checked.place);

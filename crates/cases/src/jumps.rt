@@ -59,7 +59,7 @@ fn last(label: &[u8], right: u16) {
     paper::table_3_with(label, 4, 819203, 147204, codes(0, right));
 }
 
-pub fn run() {
+pub(crate) fn run() {
     print::heading(b"The ends and the jump test");
     at_the_left();
     at_the_right();

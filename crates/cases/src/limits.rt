@@ -194,7 +194,7 @@ fn sizes() {
     check_front(b"a card of 95 bytes", &card, 95);
 }
 
-pub fn run() {
+pub(crate) fn run() {
     print::heading(b"At each limit and one past it");
     knots();
     card_numbers();

@@ -62,13 +62,13 @@ fn write_table_3(buffer: &mut [u8]) {
 }
 
 // Its card, by the writer.
-pub fn table_3() -> [u8; 94] {
+pub(crate) fn table_3() -> [u8; 94] {
     let mut card = [0u8; 94];
     write_table_3(&mut card);
     card
 }
 
-pub fn table_3_and_a_byte() -> [u8; 95] {
+pub(crate) fn table_3_and_a_byte() -> [u8; 95] {
     let mut card = [0u8; 95];
     write_table_3(&mut card);
     card
@@ -95,7 +95,7 @@ fn changed(list: [i32; 5], place: usize, number: i32) -> [i32; 5] {
 }
 
 // Table 3's card with the numbers of one place changed.
-pub fn table_3_with(label: &[u8], place: usize, slope: i32, curvature: i32, codes: Codes) {
+pub(crate) fn table_3_with(label: &[u8], place: usize, slope: i32, curvature: i32, codes: Codes) {
     let minutes = MINUTES;
     let ordinates = ORDINATES;
     let slopes = changed(SLOPES, place, slope);
@@ -222,7 +222,7 @@ fn given_curvatures() {
     );
 }
 
-pub fn run() {
+pub(crate) fn run() {
     print::heading(b"The paper's own cases");
     table_3_fitted();
     let card = table_3();

@@ -1,16 +1,16 @@
 // What the lines are made of: labels, numbers and verdicts on standard output.
 
-pub fn heading(text: &[u8]) {
+pub(crate) fn heading(text: &[u8]) {
     io::write_all(1, text);
     io::write_all(1, b"\n");
 }
 
-pub fn label(text: &[u8]) {
+pub(crate) fn label(text: &[u8]) {
     io::write_all(1, text);
     io::write_all(1, b": ");
 }
 
-pub fn signed(number: i32) {
+pub(crate) fn signed(number: i32) {
     if number < 0 {
         io::write_all(1, b"-");
     }
@@ -18,22 +18,22 @@ pub fn signed(number: i32) {
 }
 
 // A number behind its word.
-pub fn named(word: &[u8], number: i32) {
+pub(crate) fn named(word: &[u8], number: i32) {
     io::write_all(1, word);
     signed(number);
 }
 
-pub fn counted(word: &[u8], number: u32) {
+pub(crate) fn counted(word: &[u8], number: u32) {
     io::write_all(1, word);
     io::print_decimal(1, number as u64);
 }
 
-pub fn end() {
+pub(crate) fn end() {
     io::write_all(1, b"\n");
 }
 
 // `ok` or `refused NUMBER at PLACE`.
-pub fn verdict(number: u32, place: u32) {
+pub(crate) fn verdict(number: u32, place: u32) {
     if number == 0 {
         io::write_all(1, b"ok");
     } else {
@@ -43,13 +43,13 @@ pub fn verdict(number: u32, place: u32) {
 }
 
 // A verdict behind its word.
-pub fn judged(word: &[u8], number: u32, place: u32) {
+pub(crate) fn judged(word: &[u8], number: u32, place: u32) {
     io::write_all(1, word);
     verdict(number, place);
 }
 
 // So many bytes of a text, where it has them.
-pub fn front(text: &[u8], length: usize) {
+pub(crate) fn front(text: &[u8], length: usize) {
     if length <= text.len() {
         io::write_all(1, &text[0..length]);
     }
@@ -64,7 +64,7 @@ fn wide(byte: u8) -> u64 {
 }
 
 // A line of bytes in hexadecimal, with a space between two.
-pub fn bytes(list: &[u8]) {
+pub(crate) fn bytes(list: &[u8]) {
     let mut i: usize = 0;
     while i < list.len() {
         if 0 < i {

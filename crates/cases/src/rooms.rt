@@ -133,7 +133,7 @@ fn fits() {
     fitted(b"the fit, curvatures shorter", 3, 3, 3, 2);
 }
 
-pub fn run() {
+pub(crate) fn run() {
     writers();
     readers();
     fits();

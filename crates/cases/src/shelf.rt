@@ -64,7 +64,7 @@ fn typed_over() {
     ask::reading(b"cycle 11, read at minute 32", &last, 32);
 }
 
-pub fn run() {
+pub(crate) fn run() {
     print::heading(b"The shelf: eleven bad cycles");
     faults();
     same_minutes();
