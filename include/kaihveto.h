@@ -1,7 +1,7 @@
 /* kaihveto.h: the curves of a drying hall's set points, for C and C++ on x86-64.
 
    Link with libkaihveto.a, which `rt staticlib kaihveto` writes; beside it only the C library is needed. The library keeps
-   nothing between calls and asks the system for nothing; a fit of 64 knots needs some kilobytes of stack.
+   nothing between calls and asks the system for nothing; a fit of 64 knots needs about 8 KiB of stack.
 
    Words. A knot has a minute (0 to 65,535) and an ordinate (whole hundredths, -20,000 to 20,000). A card has 3 to 64 knots
    with gaps of 1 to 60 minutes, and adds to each knot a slope and a curvature in card units: 1/4096 hundredth per minute, and
