@@ -1,1 +1,2 @@
 pub mod OneOutcome
+pub mod FitToCard
