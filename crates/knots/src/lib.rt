@@ -116,7 +116,7 @@ pub fn on(n: usize, i: usize) -> usize
 }
 
 // From one minute to another; 0 where it is not after.
-pub fn gap(from: u16, to: u16) -> u16
+fn gap(from: u16, to: u16) -> u16
     ensures { λ r. ⌜ r ≡ to - from ⌝ }
 {
     if to < from {
@@ -287,22 +287,4 @@ pub fn gap_of(xs: &[u16], minute: u16) -> usize
         i -= 1;
     }
     0
-}
-
-// ---- a knot's numbers, as wide as the curve's arithmetic takes them
-
-pub fn ordinate(ys: &[i16], i: usize) -> i64
-    requires { ⌜ i < length (now ys) ⌝ }
-    ensures { λ r. ⌜ r ≡ getD (now (ys .entry)) i (pos 0) ⌝ }
-{
-    let y = ys[i];
-    y as i64
-}
-
-pub fn card_number(ms: &[i32], i: usize) -> i64
-    requires { ⌜ i < length (now ms) ⌝ }
-    ensures { λ r. ⌜ r ≡ getD (now (ms .entry)) i (pos 0) ⌝ }
-{
-    let m = ms[i];
-    m as i64
 }

@@ -17,15 +17,18 @@ ghost use Rattle.lists.specs.Lists.{Long, Checked, In-place, numbers-at,
 
 // ---- 10
 
-// A knot's numbers.
+// A knot's numbers, as wide as the curve's arithmetic takes them.
 fn knot_at(ys: &[i16], ms: &[i32], cs: &[i32], i: usize) -> gaps::Knot
     requires { ⌜ (i < length (now ys)) × (i < length (now ms)) × (i < length (now cs)) ⌝ }
     ensures { λ r. ⌜ r ≡ numbers-at (now (ys .entry)) (now (ms .entry)) (now (cs .entry)) i ⌝ }
 {
+    let y = ys[i];
+    let m = ms[i];
+    let c = cs[i];
     gaps::Knot {
-        ordinate: knots::ordinate(ys, i),
-        slope: knots::card_number(ms, i),
-        curvature: knots::card_number(cs, i),
+        ordinate: y as i64,
+        slope: m as i64,
+        curvature: c as i64,
     }
 }
 

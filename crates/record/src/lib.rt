@@ -18,7 +18,7 @@ pub fn read_u16(list: &[u8], at: usize) -> u16
     low + high * 256
 }
 
-pub fn read_u32(list: &[u8], at: usize) -> u32
+fn read_u32(list: &[u8], at: usize) -> u32
     requires { ⌜ at + 4 ≤ length (now list) ⌝ }
     ensures { λ r. ⌜ r ≡ numAt 4 (now (list .entry)) at ⌝ }
 {
@@ -49,7 +49,7 @@ pub fn write_u16(list: &mut [u8], at: usize, number: u16)
     list[at + 1] = (number / 256) as u8;
 }
 
-pub fn write_u32(list: &mut [u8], at: usize, number: u32)
+fn write_u32(list: &mut [u8], at: usize, number: u32)
     requires { ⌜ at + 4 ≤ length (now list) ⌝ }
     ensures { λ _. ⌜ now (list .exit) ≡ sets (now (list .entry)) at (le 4 number) ⌝ }
 {
