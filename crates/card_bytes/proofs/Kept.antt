@@ -12,6 +12,8 @@ use lib.ListN.{length, drop, length-append, length-drop}
 use lib.IntN.{pos}
 use mir.Syntax.{w16, w32}
 use mir.Val.{SFits}
+use Rattle.front.specs.Front.{listed}
+use Rattle.front.proofs.Listed.{listed-is}
 use Rattle.record.specs.Numbers.{le, numAt, signedBytes}
 use Rattle.record.specs.Record.{header, isAt}
 use Rattle.record.proofs.Numbers.{length-le, stood}
@@ -20,8 +22,7 @@ use Rattle.record.proofs.Records.{header-stands}
 use Rattle.curve.specs.Card.{Knot, Card, knots, knot}
 use Rattle.curve.specs.Steps.{size}
 use Rattle.card_bytes.specs.Bytes.{head-bytes, knot-bytes, end-bytes, rows, knot-row, bytes-of}
-use Rattle.card_bytes.specs.Held.{start, table, minute-at, ordinate-at, slope-at, curvature-at, knot-at, count-at, card-of}
-use Rattle.card_bytes.proofs.Tables.{table-is}
+use Rattle.card_bytes.specs.Held.{start, minute-at, ordinate-at, slope-at, curvature-at, knot-at, count-at, card-of}
 use Rattle.card_bytes.proofs.Standing.{Whole}
 
 -- a knot's numbers are of their types
@@ -110,17 +111,17 @@ card-is s c h n l r k =
       right = r t;
     }
   where
-    xs : table (minute-at s) 0 (count-at s) ≡ c .minutes
-    xs = table-is 0 (minute-at s) (c .minutes) n refl (λ j g. ap (λ (a : Knot). a .x) (k j g))
+    xs : listed (minute-at s) (count-at s) ≡ c .minutes
+    xs = listed-is 0 (minute-at s) (c .minutes) n refl (λ j g. ap (λ (a : Knot). a .x) (k j g))
 
-    ys : table (ordinate-at s) 0 (count-at s) ≡ c .ordinates
-    ys = table-is (pos 0) (ordinate-at s) (c .ordinates) n (h .ordinates) (λ j g. ap (λ (a : Knot). a .y) (k j g))
+    ys : listed (ordinate-at s) (count-at s) ≡ c .ordinates
+    ys = listed-is (pos 0) (ordinate-at s) (c .ordinates) n (h .ordinates) (λ j g. ap (λ (a : Knot). a .y) (k j g))
 
-    ms : table (slope-at s) 0 (count-at s) ≡ c .slopes
-    ms = table-is (pos 0) (slope-at s) (c .slopes) n (h .slopes) (λ j g. ap (λ (a : Knot). a .m) (k j g))
+    ms : listed (slope-at s) (count-at s) ≡ c .slopes
+    ms = listed-is (pos 0) (slope-at s) (c .slopes) n (h .slopes) (λ j g. ap (λ (a : Knot). a .m) (k j g))
 
-    Ms : table (curvature-at s) 0 (count-at s) ≡ c .curvatures
-    Ms = table-is (pos 0) (curvature-at s) (c .curvatures) n (h .curvatures) (λ j g. ap (λ (a : Knot). a .M) (k j g))
+    Ms : listed (curvature-at s) (count-at s) ≡ c .curvatures
+    Ms = listed-is (pos 0) (curvature-at s) (c .curvatures) n (h .curvatures) (λ j g. ap (λ (a : Knot). a .M) (k j g))
 
 pub record Kept (head : ℕ) (c : Card) : Type 0 where
   pub whole : Whole head (bytes-of head c) (knots c)

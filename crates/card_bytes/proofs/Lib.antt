@@ -1,7 +1,8 @@
-pub mod Tables
+pub mod Rows
 pub mod Sizes
 pub mod Standing
 pub mod Made
 pub mod Kept
 pub mod RoundTrip
 pub mod Table3
+pub mod Holding

@@ -8,6 +8,7 @@ use native.Mathlib.Omega.{arith}
 use lib.ListN.{length, drop, drop-of-length-le}
 use lib.IntN.{pos}
 use mir.Syntax.{w16, w32}
+use Rattle.front.proofs.Listed.{getD-listed}
 use Rattle.record.specs.Numbers.{numAt, Bytes}
 use Rattle.record.specs.Record.{isAt}
 use Rattle.record.proofs.Numbers.{peel}
@@ -16,7 +17,7 @@ use Rattle.record.proofs.Records.{standing, header-made}
 use Rattle.curve.specs.Card.{knot}
 use Rattle.card_bytes.specs.Bytes.{head-bytes, knot-bytes, end-bytes, rows, knot-row, bytes-of}
 use Rattle.card_bytes.specs.Held.{start, minute-at, ordinate-at, slope-at, curvature-at, knot-at, count-at, card-of}
-use Rattle.card_bytes.proofs.Tables.{rows-alike, table-at}
+use Rattle.card_bytes.proofs.Rows.{rows-alike}
 use Rattle.card_bytes.proofs.Standing.{knots-of, Whole}
 
 module _ (s : List ℕ) (b : Bytes s) where
@@ -59,10 +60,10 @@ module _ (s : List ℕ) (b : Bytes s) where
   unfolding row-at knot-row knot card-of
   same-row i l =
       rw (
-        table-at (minute-at s) 0 (count-at s) i l,
-        table-at (ordinate-at s) (pos 0) (count-at s) i l,
-        table-at (slope-at s) (pos 0) (count-at s) i l,
-        table-at (curvature-at s) (pos 0) (count-at s) i l,
+        getD-listed (minute-at s) 0 (count-at s) i l,
+        getD-listed (ordinate-at s) (pos 0) (count-at s) i l,
+        getD-listed (slope-at s) (pos 0) (count-at s) i l,
+        getD-listed (curvature-at s) (pos 0) (count-at s) i l,
       )
 
   pub made : {head : ℕ} → Whole head s (count-at s) → s ≡ bytes-of head (card-of s)

@@ -9,6 +9,7 @@ use lib.ListN.{length}
 use borrow.Author.Tests.{eq-eqb, le-ltb}
 use Rattle.answer.specs.Answer.{accepted, _then_}
 use Rattle.answer.proofs.Steps.{first-accepts, next-accepts, both-accept, accepts-refuse}
+use Rattle.front.proofs.Listed.{length-listed}
 use Rattle.record.specs.Numbers.{Bytes}
 use Rattle.curve.specs.Kind.{Kind}
 use Rattle.curve.specs.Card.{Card, knots}
@@ -20,7 +21,6 @@ use Rattle.curve.proofs.Demand3.{demand-3}
 use Rattle.card_bytes.specs.Bytes.{bytes-of}
 use Rattle.card_bytes.specs.Held.{minute-at, ordinate-at, slope-at, curvature-at, count-at, card-of}
 use Rattle.card_bytes.specs.Records.{head-due, card-verdict}
-use Rattle.card_bytes.proofs.Tables.{length-table}
 use Rattle.card_bytes.proofs.Standing.{knots-of, Whole, whole, whole-headed, whole-recorded, whole-size}
 use Rattle.card_bytes.proofs.Made.{made}
 use Rattle.card_bytes.proofs.Kept.{Numbers, Lent, kept}
@@ -68,9 +68,9 @@ module _ (K : Kind) (head : ℕ) where
         let n = count-at s in
         let e1 = next-accepts (head-due head s) _ e in
         let e2 = next-accepts (counted K _) _ e1 in
-        let x = length-table (minute-at s) 0 n in
+        let x = length-listed (minute-at s) n in
         both-accept
-        (rw x (same-lengths (length-table (ordinate-at s) 0 n) (length-table (slope-at s) 0 n) (length-table (curvature-at s) 0 n)))
+        (rw x (same-lengths (length-listed (ordinate-at s) n) (length-listed (slope-at s) n) (length-listed (curvature-at s) n)))
         (both-accept (first-accepts _ _ e1) (both-accept (first-accepts _ _ e2) (next-accepts _ _ (next-accepts _ _ e2))))
 
     -- the writer makes them again of the card that they hold

@@ -10,7 +10,7 @@ use Rattle.record.proofs.Signs.{length-signed}
 use Rattle.curve.specs.Card.{Knot, Card, knots}
 use Rattle.curve.specs.Steps.{size}
 use Rattle.card_bytes.specs.Bytes.{head-bytes, knot-bytes, end-bytes, rows, knot-row, bytes-of}
-use Rattle.card_bytes.proofs.Tables.{length-rows}
+use Rattle.card_bytes.proofs.Rows.{length-rows}
 
 pub length-head : (head n left right : ℕ) → length (head-bytes head n left right) ≡ 10
 unfolding head-bytes header

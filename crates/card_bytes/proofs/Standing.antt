@@ -9,17 +9,17 @@ use lib.ListN.{length}
 use borrow.Author.Tests.{not-false, le-ltb, ltb-false}
 use Rattle.answer.specs.Answer.{accepted}
 use Rattle.answer.proofs.Steps.{first-accepts, next-accepts, both-accept, refuse-accepts, accepts-refuse, each-accepts, accepts-each}
+use Rattle.front.proofs.Listed.{length-listed}
 use Rattle.record.specs.Record.{isAt}
 use Rattle.record.proofs.Records.{standing}
 use Rattle.curve.specs.Card.{knots}
 use Rattle.curve.specs.Steps.{size}
 use Rattle.card_bytes.specs.Held.{start, minute-at, count-at, card-of}
 use Rattle.card_bytes.specs.Records.{due, head-due, knot-due, end-due, records-due}
-use Rattle.card_bytes.proofs.Tables.{length-table}
 
 pub knots-of : (s : List ℕ) → knots (card-of s) ≡ count-at s
 unfolding knots card-of
-knots-of s = length-table (minute-at s) 0 (count-at s)
+knots-of s = length-listed (minute-at s) (count-at s)
 
 module _ (s : List ℕ) (at kind long : ℕ) where
   pub due-stands : due s at kind long ≡ accepted → isAt s at kind long ≡ true

@@ -3,10 +3,32 @@
 use mathlib.Core.Path.{_≡_}
 use mathlib.Core.List.{List}
 use Prim.Native.Nat.{ℕ, _≤_}
-use lib.ListN.{length, take}
+use lib.ListN.{length, take, replicate}
+use lib.IntN.{pos}
+use Rattle.front.specs.Front.{over}
+use Rattle.record.specs.Numbers.{numAt}
 use Rattle.curve.specs.Card.{Card}
-use Rattle.card_bytes.specs.Held.{card-of}
+use Rattle.card_bytes.specs.Held.{minute-at, ordinate-at, slope-at, curvature-at, count-at, card-of}
 use Rattle.card_bytes.specs.declared.Card.{Card as Decoded}
+
+-- the card that bytes hold, each list at the front of its array and zeros behind it
+unfoldable pub held : List ℕ → Decoded
+held s =
+    record {
+      knots = count-at s;
+      left = numAt 2 s 6;
+      right = numAt 2 s 8;
+      minutes = over (minute-at s) (count-at s) (replicate 64 0);
+      ordinates = over (ordinate-at s) (count-at s) (replicate 64 (pos 0));
+      slopes = over (slope-at s) (count-at s) (replicate 64 (pos 0));
+      curvatures = over (curvature-at s) (count-at s) (replicate 64 (pos 0));
+    }
+
+-- of no knots: zeros alone
+abbrev pub none : Decoded
+none =
+    let numbers = replicate 64 (pos 0) in
+    record { knots = 0; left = 0; right = 0; minutes = replicate 64 0; ordinates = numbers; slopes = numbers; curvatures = numbers }
 
 -- the card that it is
 unfoldable pub decoded : Decoded → Card

@@ -1,16 +1,12 @@
 -- Document 01, "Card bytes", read back: the card that bytes hold, whatever the bytes are.
 -- Assumes nothing.
-use Prim.Native.Nat.{ℕ, zero, suc, _+_, _*_}
-use mathlib.Core.List.{List, [], _∷_}
+use Prim.Native.Nat.{ℕ, _+_, _*_}
+use mathlib.Core.List.{List}
 use lib.IntN.{ℤ}
 use mir.Syntax.{w16, w32}
+use Rattle.front.specs.Front.{listed}
 use Rattle.record.specs.Numbers.{numAt, signedAt}
 use Rattle.curve.specs.Card.{Knot, Card}
-
--- the k values of f from place i on
-unfoldable pub table : {A : Type 0} → (ℕ → A) → ℕ → ℕ → List A
-table f i zero = []
-table f i (suc k) = f i ∷ table f (suc i) k
 
 -- where the record of a knot starts, behind a head of 10 bytes; the end's starts where one more knot's would
 abbrev pub start : ℕ → ℕ
@@ -37,10 +33,10 @@ count-at s = numAt 2 s 4
 unfoldable pub card-of : List ℕ → Card
 card-of s =
     record {
-      minutes = table (minute-at s) 0 (count-at s);
-      ordinates = table (ordinate-at s) 0 (count-at s);
-      slopes = table (slope-at s) 0 (count-at s);
-      curvatures = table (curvature-at s) 0 (count-at s);
+      minutes = listed (minute-at s) (count-at s);
+      ordinates = listed (ordinate-at s) (count-at s);
+      slopes = listed (slope-at s) (count-at s);
+      curvatures = listed (curvature-at s) (count-at s);
       left = numAt 2 s 6;
       right = numAt 2 s 8;
     }

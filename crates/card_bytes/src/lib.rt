@@ -13,7 +13,7 @@ ghost use Rattle.curve.specs.Steps.{size};
 ghost use Rattle.card_bytes.specs.Bytes.{head-bytes, a-knot, knot-bytes, end-bytes, bytes-of};
 ghost use Rattle.knots.specs.Lent.{lent};
 ghost use Rattle.card_bytes.specs.Held.{start, count-at};
-ghost use Rattle.card_bytes.specs.Decoded.{decoded, Full, Holds};
+ghost use Rattle.card_bytes.specs.Decoded.{held, none, decoded, Full};
 ghost use Rattle.card_bytes.specs.Records.{due, head-due, knot-due, end-due, records-due};
 
 // ---- 14
@@ -146,7 +146,7 @@ pub fn put_card(
 
 // ---- the card that bytes hold
 
-// Its numbers, decoded once: each list at the front of an array.
+// Its numbers, decoded once: each list at the front of an array, zeros behind it.
 pub struct Card {
     pub knots: usize,
     pub left: u16,
@@ -163,7 +163,7 @@ impl Card {
 
     // Of no knots.
     pub fn none() -> Card
-        ensures { λ r. ⌜ r .knots ≡ 0 ⌝ }
+        ensures { λ r. ⌜ r ≡ none ⌝ }
     {
         let minutes = [0u16; 64];
         let ordinates = [0i16; 64];
@@ -183,7 +183,7 @@ impl Card {
     // Of bytes that have a head, no more knots than there is place for, and a record for each.
     pub fn of(list: &[u8]) -> Card
         requires { ⌜ (count-at (now list) ≤ 64) × (start (count-at (now list)) ≤ length (now list)) ⌝ }
-        ensures { λ r. ⌜ Holds r (now (list .entry)) ⌝ }
+        ensures { λ r. ⌜ r ≡ held (now (list .entry)) ⌝ }
     {
         let n = record::read_u16(list, 4) as usize;
         let mut minutes = [0u16; 64];

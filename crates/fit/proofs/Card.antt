@@ -14,7 +14,7 @@ use Rattle.curve.specs.Steps.{lengths, codes}
 use Rattle.curve.specs.Orders.{sound, verdict, fit-order}
 use Rattle.curve.proofs.Accepted.{same-lengths}
 use Rattle.rows.specs.declared.End.{End}
-use Rattle.passes.proofs.Lists.{length-listed}
+use Rattle.front.proofs.Listed.{length-listed}
 use Rattle.ends.specs.Ends.{code, end-by}
 use Rattle.ends.proofs.Codes.{code-known, code-asked}
 use Rattle.numbers.specs.Numbers.{slope-at, curvature-at}

@@ -17,8 +17,8 @@ use Rattle.curve.specs.Steps.{slope-beyond, curvature-beyond, in-range, smooth}
 use Rattle.curve.specs.Orders.{numbers-sound}
 use Rattle.knots.specs.Lent.{lent}
 use Rattle.knots.proofs.Accepted.{ranged}
-use Rattle.passes.specs.Passes.{listed}
-use Rattle.passes.proofs.Lists.{getD-listed, listed-same}
+use Rattle.front.specs.Front.{listed}
+use Rattle.front.proofs.Listed.{getD-listed, listed-same}
 use Rattle.units.specs.Units.{farthest, held}
 use Rattle.units.proofs.Held.{beyond-held, held-within}
 use Rattle.fit.specs.Fit.{tested}

@@ -17,7 +17,8 @@ use Rattle.rows.specs.declared.End.the-variants.{Free}
 use Rattle.rows.specs.Elimination.{backward}
 use Rattle.passes.specs.declared.Solved.{Solved}
 use Rattle.passes.specs.Sheet.{knot-at}
-use Rattle.passes.specs.Passes.{listed, passes}
+use Rattle.front.specs.Front.{listed}
+use Rattle.passes.specs.Passes.{passes}
 use Rattle.ends.specs.Ends.{code, end-by, ends}
 use Rattle.numbers.specs.Numbers.{slope-at, curvature-at}
 

@@ -1,2 +1,1 @@
 pub mod Finite
-pub mod First

@@ -4,9 +4,7 @@ ghost use mathlib.Core.Path.{_≡_};
 ghost use Prim.Native.Nat.{_≤_};
 ghost use lib.ListN.{length, take};
 ghost use Rattle.passes.specs.Sheet.{most};
-ghost use Rattle.passes.specs.Passes.{listed};
-ghost use Rattle.units.specs.Units.{held};
-ghost use Rattle.numbers.specs.Numbers.{slope-at, curvature-at, All-finite};
+ghost use Rattle.numbers.specs.Numbers.{All-finite, scaled};
 use passes::MOST;
 use rows::Pair;
 
@@ -15,12 +13,11 @@ pub struct Numbers {
     pub curvatures: [i32; MOST],
 }
 
-// Of the first n pairs.
+// Of the first n pairs, zeros behind them.
 pub fn scale(pairs: [Pair; MOST], n: usize) -> Numbers
     requires { ⌜ n ≤ most ⌝ }
     requires { ⌜ All-finite pairs ⌝ }
-    ensures { λ r. ⌜ take n (r .slopes) ≡ listed (λ k. held (slope-at pairs k)) n ⌝ }
-    ensures { λ r. ⌜ take n (r .curvatures) ≡ listed (λ k. held (curvature-at pairs k)) n ⌝ }
+    ensures { λ r. ⌜ r ≡ scaled pairs n ⌝ }
 {
     let mut slopes = [0i32; MOST];
     let mut curvatures = [0i32; MOST];

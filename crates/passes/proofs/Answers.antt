@@ -15,8 +15,9 @@ use Rattle.passes.specs.declared.Solved.{Solved}
 use Rattle.passes.specs.Sheet.{most}
 use Rattle.passes.specs.Forward.{Run, going, stuck, number-of, place-of, runTo, state-at, no-state, Forwarded}
 use Rattle.passes.specs.Back.{Back, back, stopped, pair-of, backTo, pair-at, no-pair}
-use Rattle.passes.specs.Passes.{listed, refused, returned, answered, back-from, passes}
-use Rattle.passes.proofs.Lists.{listed-same, getD-listed}
+use Rattle.front.specs.Front.{listed}
+use Rattle.passes.specs.Passes.{refused, returned, answered, back-from, passes}
+use Rattle.front.proofs.Listed.{listed-same, getD-listed}
 use Rattle.passes.proofs.Backs.{back-same, zeros-finite, pair-finite}
 
 -- the way back sees nothing of the states but those of its n knots

@@ -1,7 +1,8 @@
 -- Both passes as one answer: the n pairs, or number 8 at the knot where it is first met, forward then back. Assumes nothing.
-use Prim.Native.Nat.{ℕ, zero, suc}
-use mathlib.Core.List.{List, [], _∷_, _++_}
+use Prim.Native.Nat.{ℕ}
+use mathlib.Core.List.{List}
 use lib.ListN.{replicate}
+use Rattle.front.specs.Front.{listed}
 use Rattle.rows.specs.declared.Pair.{Pair}
 use Rattle.rows.specs.declared.State.{State}
 use Rattle.rows.specs.declared.Step.{Step}
@@ -10,11 +11,6 @@ use Rattle.passes.specs.declared.Solved.{Solved}
 use Rattle.passes.specs.Sheet.{most}
 use Rattle.passes.specs.Forward.{Run, going, stuck, runTo, state-at}
 use Rattle.passes.specs.Back.{Back, back, stopped, backTo, pair-at}
-
--- P 0 to P (n − 1)
-abbrev pub listed : {A : Type 0} → (ℕ → A) → ℕ → List A
-listed P zero = []
-listed P (suc n) = listed P n ++ (P n ∷ [])
 
 -- zeros beside number and place
 abbrev pub refused : ℕ → Solved

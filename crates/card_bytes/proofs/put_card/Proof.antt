@@ -15,7 +15,7 @@ use Rattle.curve.specs.Card.{knots, knot}
 use Rattle.knots.specs.Lent.{lent}
 use Rattle.card_bytes.specs.Bytes.{head-bytes, end-bytes, rows, knot-row, bytes-of}
 use Rattle.card_bytes.specs.Held.{start}
-use Rattle.card_bytes.proofs.Tables.{rows-more}
+use Rattle.card_bytes.proofs.Rows.{rows-more}
 use Rattle.card_bytes.proofs.Sizes.{length-head, length-knots}
 use Rattle.card_bytes.proofs.put_card.Statement.{statement}
 use Rattle.card_bytes.proofs.put_card.Tie as tie

@@ -34,7 +34,7 @@ returns : tie.Need-returns
 returns c =
     let p = c .before .before .before .before .before .before .before .before .before .pairs-of in
     let x = c .before .before .before .before .before .scale in
-    fits-along (worked-out _ _ _ _ (p .result) (p .ensures) (x .result) (c .before .before .before .before .before .before .before .if1 .taken) (x .ensures .0) (x .ensures .1)) (c .before .before .settle .ensures)
+    fits-along (worked-out _ _ _ _ (p .result) (p .ensures) (x .result) (c .before .before .before .before .before .before .before .if1 .taken) (x .ensures)) (c .before .before .settle .ensures)
 
 returns-2 : tie.Need-returns-2
 returns-2 c = let p = c .before .before .pairs-of in fits-along (met _ _ _ _ (p .result) (p .ensures) (c .if1 .left)) fits-refused

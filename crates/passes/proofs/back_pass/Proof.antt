@@ -12,8 +12,9 @@ use Rattle.rows.specs.Elimination.{backward}
 use Rattle.passes.specs.Sheet.{most}
 use Rattle.passes.specs.Forward.{no-state}
 use Rattle.passes.specs.Back.{back, pair-of, backTo, pair-at, no-pair}
-use Rattle.passes.specs.Passes.{listed, returned, back-from}
-use Rattle.passes.proofs.Lists.{is-listed, grown-down}
+use Rattle.front.specs.Front.{listed}
+use Rattle.passes.specs.Passes.{returned, back-from}
+use Rattle.front.proofs.Listed.{is-listed, grown-down}
 use Rattle.passes.proofs.Backs.{goes-on, stays-stopped, pair-here, zeros-behind}
 use Rattle.passes.proofs.back_pass.Statement.{statement}
 use Rattle.passes.proofs.back_pass.Tie as tie

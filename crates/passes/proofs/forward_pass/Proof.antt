@@ -9,7 +9,7 @@ use borrow.Author.Count.{below-none}
 use Rattle.rows.specs.declared.Step.the-variants.{Went, Stuck}
 use Rattle.passes.specs.Sheet.{most, left-gap, knot-at}
 use Rattle.passes.specs.Forward.{going, runTo, state-at, left-by, number-of, place-of, no-state}
-use Rattle.passes.proofs.Lists.{grown-up}
+use Rattle.front.proofs.Listed.{grown-up}
 use Rattle.passes.proofs.Runs.{goes-on, stays-stuck, knot-is}
 use Rattle.passes.proofs.forward_pass.Statement.{statement}
 use Rattle.passes.proofs.forward_pass.Tie as tie

@@ -5,9 +5,10 @@ use mathlib.Core.Path.{_≡_, refl}
 use native.Mathlib.Omega.{arith}
 use lib.IntN.{pos}
 use mir.Syntax.{w16, w32}
+use Rattle.front.specs.Front.{from}
+use Rattle.front.proofs.Filled.{Filled, filled-none, filled-more, filled-by}
 use Rattle.record.proofs.Signs.{passed}
 use Rattle.card_bytes.specs.Decoded.{decoded}
-use Rattle.card_bytes.proofs.Tables.{from, Filled, filled-none, filled-more, filled-front}
 use Rattle.card_bytes.proofs.Card.give.Statement.{statement}
 use Rattle.card_bytes.proofs.Card.give.Tie as tie
 
@@ -40,10 +41,10 @@ returns c =
     let e : c .before .loop .place ≡ s .args .self .knots = omega arith in
     let full = s .pre .0 in
     let d = s .args .self in (
-      filled-front 0 (d .minutes) (v .1) e (full .minutes),
+      filled-by 0 (d .minutes) (v .1) e (full .minutes),
       (
-        filled-front (pos 0) (d .ordinates) (v .2) e (full .ordinates),
-        (filled-front (pos 0) (d .slopes) (v .3) e (full .slopes), filled-front (pos 0) (d .curvatures) (v .4) e (full .curvatures)),
+        filled-by (pos 0) (d .ordinates) (v .2) e (full .ordinates),
+        (filled-by (pos 0) (d .slopes) (v .3) e (full .slopes), filled-by (pos 0) (d .curvatures) (v .4) e (full .curvatures)),
       ),
     )
 

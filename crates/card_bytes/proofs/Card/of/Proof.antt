@@ -4,11 +4,11 @@ use Prim.Native.Nat.{_-_, _≤_}
 use mathlib.Core.Path.{_≡_, _∙_}
 use native.Mathlib.Omega.{arith}
 use mir.Syntax.{w16, w32}
+use Rattle.front.proofs.Filled.{Filled, filled-none, filled-more}
 use Rattle.record.proofs.Signs.{passed}
-use Rattle.card_bytes.specs.Decoded.{decoded}
-use Rattle.card_bytes.specs.Held.{minute-at, ordinate-at, slope-at, curvature-at, card-of}
+use Rattle.card_bytes.specs.Decoded.{held}
+use Rattle.card_bytes.specs.Held.{minute-at, ordinate-at, slope-at, curvature-at}
 use borrow.Author.Needs.{needs}
-use Rattle.card_bytes.proofs.Tables.{Filled, filled-none, filled-more, filled-take}
 use Rattle.card_bytes.proofs.Card.of.Statement.{statement}
 use Rattle.card_bytes.proofs.Card.of.Tie as tie
 
@@ -34,24 +34,13 @@ loop-again c =
     )
 
 returns : tie.Need-returns Inv-loop μ-loop
-unfolding card-of decoded
+unfolding held
 returns c =
     let l = c .before .before .before in
     let v = l .loop .inv in
     let n = l .before .read-u16 .ensures in
     let e : l .loop .i ≡ l .before .read-u16 .result = omega arith in
-    record {
-      full = record { few = omega arith; minutes = omega arith; ordinates = omega arith; slopes = omega arith; curvatures = omega arith };
-      is = λ t.
-          record {
-            minutes = filled-take (v .1) (e ∙ n) n t;
-            ordinates = filled-take (v .2) (e ∙ n) n t;
-            slopes = filled-take (v .3) (e ∙ n) n t;
-            curvatures = filled-take (v .4) (e ∙ n) n t;
-            left = c .before .read-u163 .ensures t;
-            right = c .read-u164 .ensures t;
-          };
-    }
+    rw (v .1 .is, v .2 .is, v .3 .is, v .4 .is, e, n, c .before .read-u163 .ensures, c .read-u164 .ensures)
 
 pub of-spec : {M : Type 1} → statement M
 of-spec =

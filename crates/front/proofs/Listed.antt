@@ -1,4 +1,5 @@
--- From what stands at each index to the list, and what a store changes of it. Assumes nothing.
+-- A list by what stands at each place: its length, its elements, when two are the same, and what a store changes of it.
+-- Assumes nothing.
 use Prim.Native.Nat.{ℕ, zero, suc, _+_, _≤_, _<_}
 use native.Mathlib.Numerals.{add-one}
 use native.Mathlib.Nat.{ne-of-lt, ne-of-gt, eq-or-lt-of-le}
@@ -6,10 +7,10 @@ use native.Mathlib.Omega.{arith}
 use mathlib.Core.Path.{_≡_, refl, sym, ap, ap₂, subst, _∙_}
 use mathlib.Core.Logic.{⊎-elim}
 use mathlib.Core.List.{List, [], _∷_, _++_}
-use lib.ListN.{length, getD, set, length-append, List·getD-append}
-use lib.Seq.{getD-set-same, getD-set-other, getD-at, ext-getD}
+use lib.ListN.{length, getD, set, take, length-append, List·getD-append}
+use lib.Seq.{getD-set-same, getD-set-other, getD-at, getD-take, ext-getD, length-take-le}
 use borrow.Author.Count.{below-more}
-use Rattle.passes.specs.Passes.{listed}
+use Rattle.front.specs.Front.{listed, from}
 
 module _ {A : Type 0} (P : ℕ → A) where
   pub length-listed : (n : ℕ) → length (listed P n) ≡ n
@@ -42,3 +43,11 @@ module _ {A : Type 0} (P : ℕ → A) where
 pub listed-same : {A : Type 0} (P Q : ℕ → A) (n : ℕ) → ((k : ℕ) → k < n → P k ≡ Q k) → listed P n ≡ listed Q n
 listed-same P Q zero same = refl
 listed-same P Q (suc n) same = ap₂ (λ l a. l ++ (a ∷ [])) (listed-same P Q n (λ k h. same k (omega arith))) (same n (omega arith))
+
+-- when a list of values is a given list
+pub listed-is : {A : Type 0} (d : A) (P : ℕ → A) (l : List A) {k n : ℕ} → k ≡ n → length l ≡ n → ((j : ℕ) → j < n → P j ≡ getD l j d) → listed P k ≡ l
+listed-is d P l {k} {n} e q at = rw e (sym (is-listed P d n l q (λ j h. sym (at j h))))
+
+-- the front of a list is the list of its first elements
+pub front-listed : {A : Type 0} (d : A) (l : List A) (n : ℕ) → n ≤ length l → take n l ≡ listed (from d l) n
+front-listed d l n h = is-listed (from d l) d n (take n l) (length-take-le n l h) (λ k p. getD-take n l k d p)

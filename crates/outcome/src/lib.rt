@@ -1,0 +1,1 @@
+// Laws only (proofs/): the promise of every public function leaves one outcome.
