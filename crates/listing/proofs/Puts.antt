@@ -33,9 +33,9 @@ pub room-before : (words words′ : List ℕ) (at : ℕ) {room : ℕ} → at + l
 room-before words words′ at h = omega (arith, length-append words words′)
 
 -- what was written leaves one outcome
-pub one-outcome : {words text text′ text″ : List ℕ} {at next next′ : ℕ}
+pub one-put : {words text text′ text″ : List ℕ} {at next next′ : ℕ}
     → Put words text text′ at next → Put words text text″ at next′ → (text′ ≡ text″) × (next ≡ next′)
-one-outcome p q = (p .stored ∙ sym (q .stored), p .behind ∙ sym (q .behind))
+one-put p q = (p .stored ∙ sym (q .stored), p .behind ∙ sym (q .behind))
 
 -- what a program prints of a buffer at whose front words were put
 pub front : {words text text′ : List ℕ} {next : ℕ} → Put words text text′ 0 next → take next text′ ≡ words

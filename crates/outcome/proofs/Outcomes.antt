@@ -1,19 +1,259 @@
-use mathlib.Core.Path.{_≡_, refl, sym, ap, _∙_}
+-- For every public function, crate by crate: two outcomes that both meet its promise are the same, in the result and in each list that the function is lent to
+-- change. One law where the promise is an equation, and one where it is an equation of what an answer means. Assumes nothing.
+use mathlib.Core.Path.{_≡_, ap}
+use mathlib.Core.List.{List, []}
+use Prim.Native.Nat.{ℕ}
+use lib.IntN.{ℤ}
 use denote.Ref.{now}
-use Rattle.answer.specs.Answer.{Verdict}
+use Rattle.answer.specs.Answer.{Answer, Verdict}
 use Rattle.answer.specs.Judge.{verdict-of}
 use Rattle.answer.specs.declared.Judged.{Judged}
 use Rattle.answer.proofs.Outcome.{one-outcome, one-judgement}
-use Rattle.outcome.specs.Once.{Once, Leaves}
-use Rattle.knots.proofs.back.Reads as back
+use Rattle.answer.proofs.refuse.Reads as refuse
+use Rattle.answer.proofs.first.Reads as first
+use Rattle.whole.proofs.nearest_unsigned.Reads as nearest-unsigned
+use Rattle.whole.proofs.nearest.Reads as nearest
+use Rattle.log.proofs.mean_of.Reads as mean-of
+use Rattle.curve.specs.Card.{Card}
+use Rattle.record.proofs.Records.{one-found}
+use Rattle.record.proofs.read_u16.Reads as read-u16
+use Rattle.record.proofs.read_i16.Reads as read-i16
+use Rattle.record.proofs.read_i32.Reads as read-i32
+use Rattle.record.proofs.write_u16.Reads as write-u16
+use Rattle.record.proofs.write_i16.Reads as write-i16
+use Rattle.record.proofs.write_i32.Reads as write-i32
+use Rattle.record.proofs.Cursor.new.Reads as cursor-new
+use Rattle.record.proofs.Cursor.read.Reads as cursor-read
+use Rattle.knots.proofs.Kind.quintic.Reads as kind-quintic
+use Rattle.knots.proofs.same_lengths.Reads as same-lengths
+use Rattle.knots.proofs.counted.Reads as counted
+use Rattle.knots.proofs.codes.Reads as codes
 use Rattle.knots.proofs.room.Reads as room
+use Rattle.knots.proofs.back.Reads as back
+use Rattle.knots.proofs.on.Reads as on
 use Rattle.knots.proofs.left_gap.Reads as left-gap
+use Rattle.knots.proofs.right_gap.Reads as right-gap
+use Rattle.knots.proofs.stand.Reads as stand
+use Rattle.knots.proofs.in_range.Reads as in-range
+use Rattle.knots.proofs.outside.Reads as outside
+use Rattle.knots.proofs.gap_of.Reads as gap-of
+use Rattle.gaps.proofs.Reading.between.Reads as reading-between
+use Rattle.gaps.proofs.jumps.Reads as jumps
+use Rattle.lists.proofs.numbers_sound.Reads as numbers-sound
+use Rattle.lists.proofs.sound.Reads as sound
+use Rattle.lists.proofs.CardReading.refused.Reads as reading-refused
+use Rattle.lists.proofs.read_at.Reads as read-at
+use Rattle.card_bytes.proofs.head_due.Reads as head-due
+use Rattle.card_bytes.proofs.records_due.Reads as records-due
+use Rattle.card_bytes.proofs.put_card.Reads as put-card
+use Rattle.card_bytes.proofs.Card.none.Reads as card-none
+use Rattle.card_bytes.proofs.Card.of.Reads as card-of
+use Rattle.card_bytes.proofs.Card.give.Reads as card-give
+use Rattle.card.proofs.check.Reads as check
+use Rattle.card.proofs.read.Reads as read
+use Rattle.card.proofs.write.Reads as write
+use Rattle.card.proofs.reading.Reads as reading
+use Rattle.rows.proofs.no_pair.Reads as no-pair
+use Rattle.rows.proofs.start.Reads as start
+use Rattle.rows.proofs.gap_of.Reads as row-gap
+use Rattle.rows.proofs.empty_gap.Reads as empty-gap
+use Rattle.rows.proofs.equations_of.Reads as equations-of
+use Rattle.rows.proofs.back.Reads as row-back
+use Rattle.rows.proofs.finite.Reads as finite
+use Rattle.rows.proofs.finite_pair.Reads as finite-pair
+use Rattle.rows.proofs.eliminate.Reads as eliminate
+use Rattle.passes.proofs.pairs_of.Reads as pairs-of
+use Rattle.units.proofs.units_of.Reads as units-of
+use Rattle.ends.proofs.code.Reads as code
+use Rattle.ends.proofs.end_by.Reads as end-by
+use Rattle.ends.proofs.given_ends.Reads as given-ends
+use Rattle.numbers.proofs.scale.Reads as scale
+use Rattle.numbers.proofs.write.Reads as write-numbers
+use Rattle.fit.specs.declared.Fitted.{Fitted}
+use Rattle.fit.specs.Promise.{Fits}
+use Rattle.fit.proofs.Outcome.{one-fit}
+use Rattle.fit.proofs.fit_between.Reads as fit-between
+use Rattle.fit.proofs.fit_codes.Reads as fit-codes
+use Rattle.fit.proofs.fit.Reads as fit
+use Rattle.listing.specs.Put.{Put}
+use Rattle.listing.proofs.Puts.{one-put}
+use Rattle.listing.proofs.magnitude.Reads as magnitude
+use Rattle.listing.proofs.refused_line.Reads as refused-line
+use Rattle.listing.proofs.list.Reads as list
+use Rattle.sheet.proofs.Sheet.read.Reads as sheet-read
+use Rattle.kaihveto.proofs.kaihveto_mean.Reads as c-mean
+use Rattle.kaihveto.proofs.kaihveto_fit.Reads as c-fit
+use Rattle.kaihveto.proofs.kaihveto_fit_ends.Reads as c-fit-ends
+use Rattle.kaihveto.proofs.kaihveto_write.Reads as c-write
+use Rattle.kaihveto.proofs.kaihveto_check.Reads as c-check
+use Rattle.kaihveto.proofs.kaihveto_read.Reads as c-read
+use Rattle.kaihveto.proofs.kaihveto_reading.Reads as c-reading
+use Rattle.outcome.specs.Once.{Leaves, Once, Lent}
 
-equation : {K A X S : Type 0} (f : K → A → X) → Once (λ (κs : K) (a : A) (x : X) (s : S). x ≡ f κs a)
-equation f κs a x y s t p q = one-outcome p q
+-- ---- the laws: a promise is an equation of what is left to the caller, or one of what an answer means, or several equations
 
-judgement : {K A S : Type 0} (f : K → A → Verdict) → Once (λ (κs : K) (a : A) (x : Judged) (s : S). verdict-of x ≡ f κs a)
-judgement f κs a x y s t p q = one-judgement p q
+module _ {K A X S B : Type 0} (left : X → S → B) (f : K → A → B) where
+  equation : Leaves (λ κs a x s. left x s ≡ f κs a) left
+  equation κs a x y s t = one-outcome
 
-pub knots : Once back.Post × Once left-gap.Post × Once room.Post
-knots = (equation _, equation _, judgement _)
+module _ {K A S : Type 0} (f : K → A → Verdict) where
+  judgement : Once (λ (κs : K) (a : A) (x : Judged) (s : S). verdict-of x ≡ f κs a)
+  judgement κs a x y s t = one-judgement
+
+module _ {K A X S B : Type 0} (list : S → B) (f : K → A → X) (g : K → A → B) where
+  abbrev Written : K → A → X → S → Type 0
+  Written κs a x s = (x ≡ f κs a) × (list s ≡ g κs a)
+
+  written : Once Written × Lent Written list
+  written = ((λ κs a x y s t p q. one-outcome (p .0) (q .0)), λ κs a x y s t p q. one-outcome (p .1) (q .1))
+
+module _ {K A X S : Type 0} (xs : S → List ℕ) (ys ms Ms : S → List ℤ) where
+  abbrev Four : (K → A → X → S → Type 0) → Type 0
+  Four Post = Lent Post xs × Lent Post ys × Lent Post ms × Lent Post Ms
+
+  module _ (f : K → A → List ℕ) (g h k : K → A → List ℤ) where
+    abbrev Given : K → A → X → S → Type 0
+    Given κs a x s = (xs s ≡ f κs a) × ((ys s ≡ g κs a) × ((ms s ≡ h κs a) × (Ms s ≡ k κs a)))
+
+    given : Four Given
+    given = (
+      (λ κs a x y s t p q. one-outcome (p .0) (q .0)),
+      (λ κs a x y s t p q. one-outcome (p .1 .0) (q .1 .0)),
+      (λ κs a x y s t p q. one-outcome (p .1 .1 .0) (q .1 .1 .0)),
+      (λ κs a x y s t p q. one-outcome (p .1 .1 .1) (q .1 .1 .1)),
+    )
+
+    module _ (e : K → A → X) where
+      abbrev Read : K → A → X → S → Type 0
+      Read κs a x s = (x ≡ e κs a) × Given κs a x s
+
+      behind : {B : Type 0} (list : S → B) → Lent Given list → Lent Read list
+      behind list once κs a x y s t p q = once κs a x y s t (p .1) (q .1)
+
+      read-into : Once Read × Four Read
+      read-into = ((λ κs a x y s t p q. one-outcome (p .0) (q .0)), (behind xs (given .0), behind ys (given .1), behind ms (given .2), behind Ms (given .3)))
+
+module _ {K A S : Type 0} (fit : K → A → Answer Card) (ms Ms : K → A → List ℤ) (ms′ Ms′ : S → List ℤ) where
+  abbrev Fitting : K → A → Fitted → S → Type 0
+  Fitting κs a x s = Fits (fit κs a) (ms κs a) (Ms κs a) (ms′ s) (Ms′ s) x
+
+  fitting : Once Fitting × Lent Fitting ms′ × Lent Fitting Ms′
+  fitting = ((λ κs a x y s t p q. one-fit p q .0), (λ κs a x y s t p q. one-fit p q .1), λ κs a x y s t p q. one-fit p q .2)
+
+module _ {K A S : Type 0} (words text : K → A → List ℕ) (text′ : S → List ℕ) (at : K → A → ℕ) where
+  abbrev Putting : K → A → ℕ → S → Type 0
+  Putting κs a x s = Put (words κs a) (text κs a) (text′ s) (at κs a) x
+
+  putting : Once Putting × Lent Putting text′
+  putting = ((λ κs a x y s t p q. one-put p q .1), λ κs a x y s t p q. one-put p q .0)
+
+-- ---- answers, rounding, the mean
+
+pub answer : Once refuse.Post × Once first.Post
+answer = (judgement _, judgement _)
+
+pub whole : Once nearest-unsigned.Post × Once nearest.Post
+whole = (equation _ _, equation _ _)
+
+pub log : Once mean-of.Post
+log = equation _ _
+
+-- ---- bytes
+
+pub record-numbers : Once read-u16.Post × Once read-i16.Post × Once read-i32.Post
+record-numbers = (equation _ _, equation _ _, equation _ _)
+
+-- each writes to its first parameter
+pub record-lists : Lent write-u16.Post (λ s. now (s .0)) × Lent write-i16.Post (λ s. now (s .0)) × Lent write-i32.Post (λ s. now (s .0))
+record-lists = (equation _ _, equation _ _, equation _ _)
+
+pub record-cursor : Once cursor-new.Post × Once cursor-read.Post
+record-cursor = ((λ κs a x y s t p q. ap (λ n. record { at = n }) (one-outcome p q)), λ κs a x y s t p q. one-found x y (one-outcome p q))
+
+-- ---- checks and readings
+
+pub knots-steps : Once same-lengths.Post × Once counted.Post × Once codes.Post × Once room.Post × Once stand.Post × Once in-range.Post × Once outside.Post
+knots-steps =
+    (judgement _, judgement _, judgement _, judgement _, judgement _, (λ κs a x y s t p q. one-judgement (p [] 0 0) (q [] 0 0)), judgement _)
+
+pub knots-places : Once kind-quintic.Post × Once back.Post × Once on.Post × Once left-gap.Post × Once right-gap.Post × Once gap-of.Post
+knots-places = (equation _ _, equation _ _, equation _ _, equation _ _, equation _ _, equation _ _)
+
+pub gaps : Once reading-between.Post × Once jumps.Post
+gaps = (equation _ _, equation _ _)
+
+pub lists : Once numbers-sound.Post × Once sound.Post × Once reading-refused.Post × Once read-at.Post
+lists = (judgement _, judgement _, equation _ _, λ κs a x y s t p q. one-outcome (p 0 0) (q 0 0))
+
+-- ---- cards
+
+-- the buffer is the eighth parameter
+pub card-bytes : Once head-due.Post × Once records-due.Post × Once card-none.Post × Once card-of.Post × Lent put-card.Post (λ s. now (s .1 .1 .1 .1 .1 .1 .1 .0))
+card-bytes = (judgement _, judgement _, equation _ _, equation _ _, equation _ _)
+
+-- the four lists follow the card
+pub card-given : Four (λ s. now (s .1 .0)) (λ s. now (s .1 .1 .0)) (λ s. now (s .1 .1 .1 .0)) (λ s. now (s .1 .1 .1 .1 .0)) card-give.Post
+card-given = given _ _ _ _ _ _ _ _
+
+pub card : Once check.Post × Once reading.Post
+card = (equation _ _, equation _ _)
+
+pub card-read : Once read.Post × Four (λ s. now (s .1 .0)) (λ s. now (s .1 .1 .0)) (λ s. now (s .1 .1 .1 .0)) (λ s. now (s .1 .1 .1 .1 .0)) read.Post
+card-read = read-into _ _ _ _ _ _ _ _ _
+
+-- the buffer is the seventh
+pub card-written : Once write.Post × Lent write.Post (λ s. now (s .1 .1 .1 .1 .1 .1 .0))
+card-written = written _ _ _
+
+-- ---- the fit
+
+pub rows :
+    Once no-pair.Post × Once start.Post × Once row-gap.Post × Once empty-gap.Post × Once equations-of.Post × Once row-back.Post × Once finite.Post
+    × Once finite-pair.Post × Once eliminate.Post
+rows = (equation _ _, equation _ _, equation _ _, equation _ _, equation _ _, equation _ _, equation _ _, equation _ _, equation _ _)
+
+pub passes : Once pairs-of.Post × Once units-of.Post × Once scale.Post × Lent write-numbers.Post (λ s. now (s .0))
+passes = (equation _ _, equation _ _, equation _ _, equation _ _)
+
+pub ends : Once code.Post × Once end-by.Post × Once given-ends.Post
+ends = (equation _ _, equation _ _, judgement _)
+
+-- slopes and curvatures are the third and the fourth parameter
+pub fit-by-kinds : Once fit-between.Post × Lent fit-between.Post (λ s. now (s .1 .1 .0)) × Lent fit-between.Post (λ s. now (s .1 .1 .1 .0))
+fit-by-kinds = fitting _ _ _ _ _
+
+pub fit-by-codes : Once fit-codes.Post × Lent fit-codes.Post (λ s. now (s .1 .1 .0)) × Lent fit-codes.Post (λ s. now (s .1 .1 .1 .0))
+fit-by-codes = fitting _ _ _ _ _
+
+pub fit-free : Once fit.Post × Lent fit.Post (λ s. now (s .1 .1 .0)) × Lent fit.Post (λ s. now (s .1 .1 .1 .0))
+fit-free = fitting _ _ _ _ _
+
+-- ---- what the programs read and print
+
+pub sheet : Once sheet-read.Post × Once magnitude.Post
+sheet = (equation _ _, equation _ _)
+
+-- the text is the first parameter
+pub refusal-listed : Once refused-line.Post × Lent refused-line.Post (λ s. now (s .0))
+refusal-listed = putting _ _ _ _
+
+-- and here the seventh
+pub listed : Once list.Post × Lent list.Post (λ s. now (s .1 .1 .1 .1 .1 .1 .0))
+listed = putting _ _ _ _
+
+-- ---- the boundary: the parameters stand as in the functions behind it
+
+pub boundary : Once c-mean.Post × Once c-check.Post × Once c-reading.Post
+boundary = (equation _ _, equation _ _, equation _ _)
+
+pub boundary-fit : Once c-fit.Post × Lent c-fit.Post (λ s. now (s .1 .1 .0)) × Lent c-fit.Post (λ s. now (s .1 .1 .1 .0))
+boundary-fit = fitting _ _ _ _ _
+
+pub boundary-fit-ends : Once c-fit-ends.Post × Lent c-fit-ends.Post (λ s. now (s .1 .1 .0)) × Lent c-fit-ends.Post (λ s. now (s .1 .1 .1 .0))
+boundary-fit-ends = fitting _ _ _ _ _
+
+pub boundary-read : Once c-read.Post × Four (λ s. now (s .1 .0)) (λ s. now (s .1 .1 .0)) (λ s. now (s .1 .1 .1 .0)) (λ s. now (s .1 .1 .1 .1 .0)) c-read.Post
+boundary-read = read-into _ _ _ _ _ _ _ _ _
+
+pub boundary-written : Once c-write.Post × Lent c-write.Post (λ s. now (s .1 .1 .1 .1 .1 .1 .0))
+boundary-written = written _ _ _

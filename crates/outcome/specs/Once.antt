@@ -8,6 +8,10 @@ module _ {K A X S : Type 0} (Post : K → A → X → S → Type 0) where
   abbrev pub Leaves : {B : Type 0} → (X → S → B) → Type 0
   Leaves left = (κs : K) (a : A) (x y : X) (s t : S) → Post κs a x s → Post κs a y t → left x s ≡ left y t
 
-  -- of a function that is lent no list to change: in its result
+  -- in its result
   abbrev pub Once : Type 0
   Once = Leaves (λ x s. x)
+
+  -- in a list that it was lent to change
+  abbrev pub Lent : {B : Type 0} → (S → B) → Type 0
+  Lent list = Leaves (λ x s. list s)

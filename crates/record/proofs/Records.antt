@@ -23,13 +23,13 @@ both true b t = (refl, t)
 both false b t = absurd (true≢false (sym t))
 
 -- a number, a place and values belong to one answer only, so that a promise of them leaves one outcome
-pub one-outcome : (a b : Found) → found-of a ≡ found-of b → a ≡ b
-one-outcome (Body start next) (Body start′ next′) e =
+pub one-found : (a b : Found) → found-of a ≡ found-of b → a ≡ b
+one-found (Body start next) (Body start′ next′) e =
     let f : span start (next .at) ≡ span start′ (next′ .at) = cc in
     ap (λ (a : Span). Body (a .start) (record { at = a .next })) f
-one-outcome (Body start next) (Bad at) e = absurd (not-both (sym e))
-one-outcome (Bad at) (Body start next) e = absurd (not-both e)
-one-outcome (Bad at) (Bad at′) e = cc
+one-found (Body start next) (Bad at) e = absurd (not-both (sym e))
+one-found (Bad at) (Body start next) e = absurd (not-both e)
+one-found (Bad at) (Bad at′) e = cc
 
 module _ (s : List ℕ) (at kind long : ℕ) where
   -- what a record that stands at an offset has
