@@ -9,12 +9,12 @@ use Rattle.front.specs.Front.{over}
 use Rattle.front.proofs.Filled.{front-over, length-over}
 use Rattle.card_bytes.specs.Held.{minute-at, ordinate-at, slope-at, curvature-at, count-at, card-of}
 use Rattle.card_bytes.specs.declared.Card.{Card as Decoded}
-use Rattle.card_bytes.specs.Decoded.{held, decoded, Holds}
+use Rattle.card_bytes.specs.Decoded.{most, held, decoded, Holds}
 
-room : {A : Type 0} (f : ℕ → A) (zero : A) {n : ℕ} → n ≤ 64 → n ≤ length (over f n (replicate 64 zero))
-room f zero {n} h = omega (arith, length-over f n (replicate 64 zero) h)
+room : {A : Type 0} (f : ℕ → A) (zero : A) {n : ℕ} → n ≤ most → n ≤ length (over f n (replicate most zero))
+room f zero {n} h = omega (arith, length-over f n (replicate most zero) h)
 
-held-holds : (s : List ℕ) → count-at s ≤ 64 → Holds (held s) s
+held-holds : (s : List ℕ) → count-at s ≤ most → Holds (held s) s
 unfolding held decoded card-of
 held-holds s h =
     record {
@@ -28,5 +28,5 @@ held-holds s h =
       is = rw (front-over (minute-at s), front-over (ordinate-at s), front-over (slope-at s), front-over (curvature-at s));
     }
 
-pub holds : {d : Decoded} (s : List ℕ) → count-at s ≤ 64 → d ≡ held s → Holds d s
+pub holds : {d : Decoded} (s : List ℕ) → count-at s ≤ most → d ≡ held s → Holds d s
 holds s h e = subst (λ d. Holds d s) (sym e) (held-holds s h)

@@ -11,6 +11,10 @@ use Rattle.curve.specs.Card.{Card}
 use Rattle.card_bytes.specs.Held.{minute-at, ordinate-at, slope-at, curvature-at, count-at, card-of}
 use Rattle.card_bytes.specs.declared.Card.{Card as Decoded}
 
+-- how many knots the arrays have a place for
+abbrev pub most : ℕ
+most = 64
+
 -- the card that bytes hold, each list at the front of its array and zeros behind it
 unfoldable pub held : List ℕ → Decoded
 held s =
@@ -18,17 +22,17 @@ held s =
       knots = count-at s;
       left = numAt 2 s 6;
       right = numAt 2 s 8;
-      minutes = over (minute-at s) (count-at s) (replicate 64 0);
-      ordinates = over (ordinate-at s) (count-at s) (replicate 64 (pos 0));
-      slopes = over (slope-at s) (count-at s) (replicate 64 (pos 0));
-      curvatures = over (curvature-at s) (count-at s) (replicate 64 (pos 0));
+      minutes = over (minute-at s) (count-at s) (replicate most 0);
+      ordinates = over (ordinate-at s) (count-at s) (replicate most (pos 0));
+      slopes = over (slope-at s) (count-at s) (replicate most (pos 0));
+      curvatures = over (curvature-at s) (count-at s) (replicate most (pos 0));
     }
 
 -- of no knots: zeros alone
 abbrev pub none : Decoded
 none =
-    let numbers = replicate 64 (pos 0) in
-    record { knots = 0; left = 0; right = 0; minutes = replicate 64 0; ordinates = numbers; slopes = numbers; curvatures = numbers }
+    let numbers = replicate most (pos 0) in
+    record { knots = 0; left = 0; right = 0; minutes = replicate most 0; ordinates = numbers; slopes = numbers; curvatures = numbers }
 
 -- the card that it is
 unfoldable pub decoded : Decoded → Card
@@ -44,7 +48,7 @@ decoded d =
 
 -- the arrays have a place for every knot
 pub record Full (d : Decoded) : Type 0 where
-  pub few : d .knots ≤ 64
+  pub few : d .knots ≤ most
   pub minutes : d .knots ≤ length (d .minutes)
   pub ordinates : d .knots ≤ length (d .ordinates)
   pub slopes : d .knots ≤ length (d .slopes)

@@ -1,5 +1,6 @@
 // A card's bytes, record by record: document 01, "Card bytes". What is due where, the card that bytes hold, and the bytes of a card.
 // The functions ask for what the steps before them have shown; those of crate card, which chain them, ask nothing.
+use knots::Kind;
 use record::Cursor;
 use record::Found;
 ghost use mathlib.Core.Path.{_≡_};
@@ -13,7 +14,7 @@ ghost use Rattle.curve.specs.Steps.{size};
 ghost use Rattle.card_bytes.specs.Bytes.{head-bytes, a-knot, knot-bytes, end-bytes, bytes-of};
 ghost use Rattle.knots.specs.Lent.{lent};
 ghost use Rattle.card_bytes.specs.Held.{start, count-at};
-ghost use Rattle.card_bytes.specs.Decoded.{held, none, decoded, Full};
+ghost use Rattle.card_bytes.specs.Decoded.{most, held, none, decoded, Full};
 ghost use Rattle.card_bytes.specs.Records.{due, head-due, knot-due, end-due, records-due};
 
 // ---- 14
@@ -151,10 +152,10 @@ pub struct Card {
     pub knots: usize,
     pub left: u16,
     pub right: u16,
-    pub minutes: [u16; 64],
-    pub ordinates: [i16; 64],
-    pub slopes: [i32; 64],
-    pub curvatures: [i32; 64],
+    pub minutes: [u16; Kind::MOST],
+    pub ordinates: [i16; Kind::MOST],
+    pub slopes: [i32; Kind::MOST],
+    pub curvatures: [i32; Kind::MOST],
 }
 
 impl Card {
@@ -165,10 +166,10 @@ impl Card {
     pub fn none() -> Card
         ensures { λ r. ⌜ r ≡ none ⌝ }
     {
-        let minutes = [0u16; 64];
-        let ordinates = [0i16; 64];
-        let slopes = [0i32; 64];
-        let curvatures = [0i32; 64];
+        let minutes = [0u16; Kind::MOST];
+        let ordinates = [0i16; Kind::MOST];
+        let slopes = [0i32; Kind::MOST];
+        let curvatures = [0i32; Kind::MOST];
         Card {
             knots: 0,
             left: 0,
@@ -182,14 +183,14 @@ impl Card {
 
     // Of bytes that have a head, no more knots than there is place for, and a record for each.
     pub fn of(list: &[u8]) -> Card
-        requires { ⌜ (count-at (now list) ≤ 64) × (start (count-at (now list)) ≤ length (now list)) ⌝ }
+        requires { ⌜ (count-at (now list) ≤ most) × (start (count-at (now list)) ≤ length (now list)) ⌝ }
         ensures { λ r. ⌜ r ≡ held (now (list .entry)) ⌝ }
     {
         let n = record::read_u16(list, 4) as usize;
-        let mut minutes = [0u16; 64];
-        let mut ordinates = [0i16; 64];
-        let mut slopes = [0i32; 64];
-        let mut curvatures = [0i32; 64];
+        let mut minutes = [0u16; Kind::MOST];
+        let mut ordinates = [0i16; Kind::MOST];
+        let mut slopes = [0i32; Kind::MOST];
+        let mut curvatures = [0i32; Kind::MOST];
         let mut i: usize = 0;
         while i < n {
             let at = 10 + 16 * i;

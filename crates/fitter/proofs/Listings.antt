@@ -10,7 +10,7 @@ use Rattle.answer.specs.Answer.{Answer}
 use Rattle.curve.specs.Card.{Card}
 use Rattle.listing.specs.Text.{refused-line, listing}
 use Rattle.sheet.specs.declared.Sheet.{Sheet}
-use Rattle.sheet.specs.Sheet.{sheet}
+use Rattle.sheet.specs.Sheet.{most, sheet}
 use Rattle.fit.specs.declared.Fitted.{Fitted}
 use Rattle.fit.specs.Promise.{Fits}
 use Rattle.fitter.specs.Printed.{listing-by, fit-listing, printed}
@@ -26,6 +26,6 @@ module _ (s : List ℕ) {r : Sheet} (e : r ≡ sheet s) where
   printed-refused h = rw (← e, ne-eqb (r .number) 0 h)
 
   pub printed-fit : r .number ≡ 0
-      → printed s ≡ fit-listing (take (r .knots) (r .minutes)) (take (r .knots) (r .ordinates)) (take (r .knots) (replicate 65 (pos 0))) (take (r .knots) (replicate 65 (pos 0)))
+      → printed s ≡ fit-listing (take (r .knots) (r .minutes)) (take (r .knots) (r .ordinates)) (take (r .knots) (replicate most (pos 0))) (take (r .knots) (replicate most (pos 0)))
   unfolding printed
   printed-fit h = rw (← e, eq-eqb (r .number) 0 h)

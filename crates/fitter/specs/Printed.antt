@@ -9,7 +9,7 @@ use lib.ListN.{length, take, replicate}
 use Rattle.answer.specs.Answer.{Answer, number, place}
 use Rattle.curve.specs.Card.{Card}
 use Rattle.listing.specs.Text.{refused-line, listing}
-use Rattle.sheet.specs.Sheet.{sheet}
+use Rattle.sheet.specs.Sheet.{most, sheet}
 use Rattle.fit.specs.Fit.{fit}
 use Rattle.fit.specs.Promise.{slopes-after, curvatures-after}
 
@@ -27,4 +27,4 @@ unfoldable pub printed : List ℕ → List ℕ
 printed s =
     let a = sheet s in
     let n = a .knots in
-    cond (eqb (a .number) 0) (fit-listing (take n (a .minutes)) (take n (a .ordinates)) (take n (zeros 65)) (take n (zeros 65))) (refused-line (a .number) (a .place))
+    cond (eqb (a .number) 0) (fit-listing (take n (a .minutes)) (take n (a .ordinates)) (take n (zeros most)) (take n (zeros most))) (refused-line (a .number) (a .place))

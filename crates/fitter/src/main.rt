@@ -1,4 +1,5 @@
 // The fitter: knots as records on standard input, the listing of their fit on standard output. Document 01, "Two programs".
+use sheet::Sheet;
 ghost use mathlib.Core.Path.{_≡_};
 ghost use Prim.Native.Nat.{_+_, _*_, _^_, _≤_, _<_};
 ghost use lib.ListN.{length};
@@ -32,15 +33,15 @@ fn list_records(records: &[u8], text: &mut [u8]) -> usize
     requires { ⌜ 4096 ≤ length (now text) ⌝ }
     ensures { λ r. ⌜ Put (printed (now (records .entry))) (now (text .entry)) (now (text .exit)) 0 r ⌝ }
 {
-    let sheet = sheet::Sheet::read(records);
+    let sheet = Sheet::read(records);
     if sheet.number != 0 {
         return listing::refused_line(text, 0, sheet.number, sheet.place);
     }
     let n = sheet.knots;
     let minutes = sheet.minutes;
     let ordinates = sheet.ordinates;
-    let mut slopes = [0i32; 65];
-    let mut curvatures = [0i32; 65];
+    let mut slopes = [0i32; Sheet::MOST];
+    let mut curvatures = [0i32; Sheet::MOST];
     list_fit(
         &minutes[..n],
         &ordinates[..n],

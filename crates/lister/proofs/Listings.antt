@@ -1,4 +1,4 @@
--- What the lister prints, by what the reading of the card answers and leaves in four lists of 64 places.
+-- What the lister prints, by what the reading of the card answers and leaves in four lists of as many places as a card may have knots.
 -- Assumes nothing.
 use Prim.Native.Nat.{ℕ, _≤_}
 use mathlib.Core.Path.{_≡_, refl, ap, _∙_}
@@ -18,6 +18,7 @@ use Rattle.curve.specs.Orders.{lists-order}
 use Rattle.curve.proofs.Accepted.{Good, good}
 use Rattle.card_bytes.specs.Bytes.{quintic-head}
 use Rattle.card_bytes.specs.Held.{card-of}
+use Rattle.card_bytes.specs.Decoded.{most}
 use Rattle.card_bytes.proofs.RoundTrip.{accepted-card}
 use Rattle.card.specs.declared.Checked.{Checked}
 use Rattle.card.specs.Answers.{own, into, checked, over}
@@ -27,25 +28,25 @@ use Rattle.lister.specs.Printed.{card-listing, printed}
 held : (s : List ℕ) → own s ≡ accepted → Good quintic (card-of s)
 held s e = good quintic (card-of s) (accepted-card quintic quintic-head s e)
 
--- neither 3 nor 26 is met where four lists of 64 places are lent
-module _ (s xs : List ℕ) (ys ms Ms : List ℤ) (x : length xs ≡ 64) (y : length ys ≡ 64) (m : length ms ≡ 64) (M : length Ms ≡ 64) where
+-- neither 3 nor 26 is met where four lists of as many places as a card may have knots are lent
+module _ (s xs : List ℕ) (ys ms Ms : List ℤ) (x : length xs ≡ most) (y : length ys ≡ most) (m : length ms ≡ most) (M : length Ms ≡ most) where
   into-own : into xs ys ms Ms s ≡ own s
   unfolding into lists-order lengths room refuse _then_ quintic
   into-own = rw (x, y, m, M) (go (own s) refl)
     where
-      go : (v : Verdict) → own s ≡ v → (v then refuse 26 0 (ltb 64 (knots (card-of s)))) ≡ v
+      go : (v : Verdict) → own s ≡ v → (v then refuse 26 0 (ltb most (knots (card-of s)))) ≡ v
       go (refused number place) e = refl
-      go (given u) e = accepts-refuse 26 0 (le-ltb 64 (knots (card-of s)) (held s e .many))
+      go (given u) e = accepts-refuse 26 0 (le-ltb most (knots (card-of s)) (held s e .many))
 
   module _ {r : Checked} (e : r ≡ checked (into xs ys ms Ms s) (card-of s)) where
     is-own : r ≡ checked (own s) (card-of s)
     is-own = e ∙ ap (λ v. checked v (card-of s)) into-own
 
-    pub few : r .knots ≤ 64
+    pub few : r .knots ≤ most
     unfolding checked quintic
     few = rw is-own (go (own s) refl)
       where
-        go : (v : Verdict) → own s ≡ v → checked v (card-of s) .knots ≤ 64
+        go : (v : Verdict) → own s ≡ v → checked v (card-of s) .knots ≤ most
         go (refused number place) e = omega arith
         go (given u) e = held s e .many
 

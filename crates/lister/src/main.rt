@@ -1,4 +1,5 @@
 // The lister: a card on standard input, its listing on standard output. Document 01, "Two programs".
+use knots::Kind;
 ghost use Prim.Native.Nat.{_≤_};
 ghost use lib.ListN.{length};
 ghost use Rattle.listing.specs.Put.{Put};
@@ -8,10 +9,10 @@ fn list_card(card: &[u8], text: &mut [u8]) -> usize
     requires { ⌜ 4096 ≤ length (now text) ⌝ }
     ensures { λ r. ⌜ Put (printed (now (card .entry))) (now (text .entry)) (now (text .exit)) 0 r ⌝ }
 {
-    let mut minutes = [0u16; 64];
-    let mut ordinates = [0i16; 64];
-    let mut slopes = [0i32; 64];
-    let mut curvatures = [0i32; 64];
+    let mut minutes = [0u16; Kind::MOST];
+    let mut ordinates = [0i16; Kind::MOST];
+    let mut slopes = [0i32; Kind::MOST];
+    let mut curvatures = [0i32; Kind::MOST];
     let read = card::read(
         card,
         &mut minutes,

@@ -7,6 +7,7 @@ use lib.ListN.{length, replicate}
 use lib.Seq.{length-take-le}
 use denote.Ref.{now}
 use Rattle.listing.proofs.Lengths.{length-refused-line}
+use Rattle.sheet.specs.Sheet.{most}
 use Rattle.sheet.proofs.Counting.{Roomy, roomy}
 use Rattle.fitter.proofs.Listings.{printed-refused, printed-fit}
 use borrow.Author.Needs.{needs}
@@ -49,13 +50,13 @@ array-borrow-prefix-slopes : tie.Need-array-borrow-prefix-slopes
 array-borrow-prefix-slopes c = room (c .before .before .before .before .before .before) .few
 
 slice-aggregate-list-fit-3 : tie.Need-slice-aggregate-list-fit-3
-slice-aggregate-list-fit-3 c = let q = c .before .before .before .before .before .before .before in sym (length-take-le _ (replicate 65 (pos 0)) (room q .few))
+slice-aggregate-list-fit-3 c = let q = c .before .before .before .before .before .before .before in sym (length-take-le _ (replicate most (pos 0)) (room q .few))
 
 array-borrow-prefix-curvatures : tie.Need-array-borrow-prefix-curvatures
 array-borrow-prefix-curvatures c = room (c .before .before .before .before .before .before .before) .few
 
 slice-aggregate-list-fit-4 : tie.Need-slice-aggregate-list-fit-4
-slice-aggregate-list-fit-4 c = let q = c .before .before .before .before .before .before .before .before in sym (length-take-le _ (replicate 65 (pos 0)) (room q .few))
+slice-aggregate-list-fit-4 c = let q = c .before .before .before .before .before .before .before .before in sym (length-take-le _ (replicate most (pos 0)) (room q .few))
 
 list-fit-requires : tie.Need-list-fit-requires
 list-fit-requires c κs =
@@ -63,7 +64,7 @@ list-fit-requires c κs =
     let n = q .read .result .knots in
     let x = length-take-le n (q .read .result .minutes) (minutes-hold q) in
     let y = length-take-le n (q .read .result .ordinates) (ordinates-hold q) in
-    let m = length-take-le n (replicate 65 (pos 0)) (room q .few) in
+    let m = length-take-le n (replicate most (pos 0)) (room q .few) in
     let f = room q .few in
     let p = q .before .before .before .pre in
     ((y ∙ sym x, m ∙ sym x, m ∙ sym x), (omega arith, omega arith))

@@ -6,27 +6,28 @@ use lib.IntN.{pos}
 use lib.ListN.{length, replicate}
 use lib.Seq.{length-take-le}
 use denote.Ref.{now}
+use Rattle.card_bytes.specs.Decoded.{most}
 use Rattle.lister.proofs.Listings.{few, printed-read}
 use borrow.Author.Needs.{needs}
 use Rattle.lister.proofs.list_card.Statement.{statement}
 use Rattle.lister.proofs.list_card.Tie as tie
 
-most : (c : tie.After-read) → c .read .result .knots ≤ 64
-most c =
-    few (now (c .before .before .before .before .before .before .before .args .card)) (replicate 64 0) (replicate 64 (pos 0)) (replicate 64 (pos 0)) (replicate 64 (pos 0)) refl refl refl refl
+fits : (c : tie.After-read) → c .read .result .knots ≤ most
+fits c =
+    few (now (c .before .before .before .before .before .before .before .args .card)) (replicate most 0) (replicate most (pos 0)) (replicate most (pos 0)) (replicate most (pos 0)) refl refl refl refl
     (c .read .ensures .0)
 
 minutes-hold : (c : tie.After-read) → c .read .result .knots ≤ length (c .read .last .1 .0)
-minutes-hold c = let f = most c in omega arith
+minutes-hold c = let f = fits c in omega arith
 
 ordinates-hold : (c : tie.After-read) → c .read .result .knots ≤ length (c .read .last .1 .1 .0)
-ordinates-hold c = let f = most c in omega arith
+ordinates-hold c = let f = fits c in omega arith
 
 slopes-hold : (c : tie.After-read) → c .read .result .knots ≤ length (c .read .last .1 .1 .1 .0)
-slopes-hold c = let f = most c in omega arith
+slopes-hold c = let f = fits c in omega arith
 
 curvatures-hold : (c : tie.After-read) → c .read .result .knots ≤ length (c .read .last .1 .1 .1 .1 .0)
-curvatures-hold c = let f = most c in omega arith
+curvatures-hold c = let f = fits c in omega arith
 
 array-share-prefix-minutes : tie.Need-array-share-prefix-minutes
 array-share-prefix-minutes c = minutes-hold (c .before .before .before .before .before)
@@ -55,7 +56,7 @@ slice-aggregate-list-4 c = sym (length-take-le _ _ (curvatures-hold (c .before .
 list-requires : tie.Need-list-requires
 list-requires c κs =
     let q = c .before .before .before .before .before .before .before .before .before .before in
-    let f = most q in
+    let f = fits q in
     let n = q .read .result .knots in
     let x = length-take-le n (q .read .last .1 .0) (minutes-hold q) in
     let y = length-take-le n (q .read .last .1 .1 .0) (ordinates-hold q) in
@@ -68,7 +69,7 @@ returns : tie.Need-returns
 returns c =
     let q = c .before .before .before .before .before .before .before .before .before .before .before .before .before in
     let e = q .read .ensures in
-    rw (sym (printed-read (now (q .before .before .before .before .before .before .before .args .card)) (replicate 64 0) (replicate 64 (pos 0)) (replicate 64 (pos 0)) (replicate 64 (pos 0)) refl refl refl refl (e .0) (e .1 .0) (e .1 .1 .0) (e .1 .1 .1 .0) (e .1 .1 .1 .1)))
+    rw (sym (printed-read (now (q .before .before .before .before .before .before .before .args .card)) (replicate most 0) (replicate most (pos 0)) (replicate most (pos 0)) (replicate most (pos 0)) refl refl refl refl (e .0) (e .1 .0) (e .1 .1 .0) (e .1 .1 .1 .0) (e .1 .1 .1 .1)))
     (c .before .before .list .ensures)
 
 pub list-card-spec : {M : Type 1} → statement M
