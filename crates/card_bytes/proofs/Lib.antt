@@ -6,3 +6,4 @@ pub mod Kept
 pub mod RoundTrip
 pub mod Table3
 pub mod Holding
+pub mod Fronts

@@ -25,7 +25,7 @@ use Rattle.card.specs.Answers.{own, into, checked, over}
 use Rattle.listing.specs.Text.{listing}
 use Rattle.lister.specs.Printed.{card-listing, printed}
 
-held : (s : List ℕ) → own s ≡ accepted → Good quintic (card-of s)
+pub held : (s : List ℕ) → own s ≡ accepted → Good quintic (card-of s)
 held s e = good quintic (card-of s) (accepted-card quintic quintic-head s e)
 
 -- neither 3 nor 26 is met where four lists of as many places as a card may have knots are lent
