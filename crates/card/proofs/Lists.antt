@@ -17,10 +17,10 @@ use Rattle.curve.specs.Steps.{lengths, counted, codes, slope-beyond, curvature-
 use Rattle.curve.specs.Orders.{numbers-sound, sound, verdict, lists-order, write-order}
 use Rattle.curve.proofs.Accepted.{same-lengths, good}
 use Rattle.lists.specs.Lists.{Long, Checked as Sound-lists}
-use Rattle.card_bytes.specs.declared.Card.{Card as Decoded}
+use Rattle.decode.specs.declared.Card.{Card as Decoded}
 use Rattle.card_bytes.specs.Bytes.{quintic-head}
 use Rattle.card_bytes.specs.Held.{card-of}
-use Rattle.card_bytes.specs.Decoded.{decoded, Full, Holds}
+use Rattle.decode.specs.Decoded.{decoded, Full, Holds}
 use Rattle.card.specs.Steps.{Opens}
 use Rattle.card.specs.Answers.{own, into, checked, over}
 use Rattle.card.specs.declared.Checked.{Checked}

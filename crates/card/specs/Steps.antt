@@ -10,7 +10,7 @@ use Rattle.curve.specs.Kind.{Kind}
 use Rattle.curve.specs.Steps.{counted, codes}
 use Rattle.card_bytes.specs.Held.{count-at}
 use Rattle.card_bytes.specs.Records.{head-due, records-due, card-verdict}
-use Rattle.card_bytes.specs.Decoded.{Holds}
+use Rattle.decode.specs.Decoded.{Holds}
 use Rattle.card.specs.declared.Opened.{Opened}
 
 -- "1, 2; 15"

@@ -1,7 +1,7 @@
 // A card's bytes, tested, read into lent lists, written, and read off at a minute: document 01, "Card bytes", and the orders of "Numbers of refusal".
 // None of the public functions asks anything of its caller.
 use answer::Judged;
-use card_bytes::Card;
+use decode::Card;
 use knots::Kind;
 ghost use mathlib.Core.Path.{_≡_};
 ghost use Prim.Native.Nat.{_≤_};
@@ -16,7 +16,7 @@ ghost use Rattle.knots.specs.Lent.{lent};
 ghost use Rattle.lists.specs.Lists.{answered};
 ghost use Rattle.card_bytes.specs.Bytes.{quintic-head, bytes-of};
 ghost use Rattle.card_bytes.specs.Held.{card-of};
-ghost use Rattle.card_bytes.specs.Decoded.{decoded, Full};
+ghost use Rattle.decode.specs.Decoded.{decoded, Full};
 ghost use Rattle.card.specs.Steps.{limited, behind-head, shaped, Opens};
 ghost use Rattle.card.specs.Answers.{own, into, checked, written, over, read-off};
 
@@ -298,7 +298,7 @@ pub fn write(
             bytes: 0,
         };
     }
-    card_bytes::put_card(
+    encode::put_card(
         Card::QUINTIC,
         minutes,
         ordinates,

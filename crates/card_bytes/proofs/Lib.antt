@@ -5,5 +5,4 @@ pub mod Made
 pub mod Kept
 pub mod RoundTrip
 pub mod Table3
-pub mod Holding
 pub mod Fronts

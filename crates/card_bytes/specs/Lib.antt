@@ -1,4 +1,3 @@
 pub mod Bytes
 pub mod Held
 pub mod Records
-pub mod Decoded

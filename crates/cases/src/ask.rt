@@ -1,6 +1,6 @@
 // One function for each thing that is asked of the library, which prints its line.
 use crate::print;
-use card_bytes::Card;
+use decode::Card;
 
 // Three knots of a card.
 pub struct Three {
@@ -119,7 +119,7 @@ fn put(
     let n = minutes.len();
     if n <= 65 && ordinates.len() == n && slopes.len() == n && curvatures.len() == n {
         if 14 + 16 * n <= bytes.len() {
-            card_bytes::put_card(
+            encode::put_card(
                 Card::QUINTIC,
                 minutes,
                 ordinates,

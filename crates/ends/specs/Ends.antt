@@ -9,7 +9,7 @@ use lib.Ieee.{Float, binary64, ofBits, ofInt, neg, lt}
 use Rattle.answer.specs.Answer.{Verdict, _then_, refuse}
 use Rattle.rows.specs.declared.End.{End}
 use Rattle.rows.specs.declared.End.the-variants.{Free, Both, Curvature}
-use Rattle.rows.specs.Refusal.{is-finite}
+use Rattle.elimination.specs.Refusal.{is-finite}
 
 -- ---- codes
 

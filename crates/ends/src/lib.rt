@@ -37,7 +37,7 @@ pub fn end_by(number: u16, slope: f64, curvature: f64) -> End
 fn unfit(x: f64) -> bool
     ensures { λ r. ⌜ r ≡ unfit x ⌝ }
 {
-    if rows::finite(x) {
+    if elimination::finite(x) {
         if GIVEN < x { true } else { x < -GIVEN }
     } else {
         true

@@ -12,8 +12,8 @@ use Rattle.curve.specs.Steps.{slope-beyond, curvature-beyond, lengths, counted,
 use Rattle.curve.specs.Orders.{numbers-sound, fit-order}
 use Rattle.curve.proofs.Cases.{table-3, p1}
 use Rattle.rows.specs.Equations as Equations
-use Rattle.rows.specs.Elimination.{system}
-use Rattle.rows.specs.Refusal as Refusal
+use Rattle.elimination.specs.Elimination.{system}
+use Rattle.elimination.specs.Refusal as Refusal
 use Rattle.passes.specs.Sheet.{end-of, knot-between, right-gap, left-gap, knot-at}
 use Rattle.passes.specs.Forward.{runTo}
 use Rattle.passes.specs.Back.{turned, backTo}

@@ -12,7 +12,7 @@ use Rattle.front.specs.Front.{listed}
 use Rattle.front.proofs.Filled.{front-over}
 use Rattle.knots.specs.Lent.{lent}
 use Rattle.rows.specs.declared.End.{End}
-use Rattle.rows.specs.Elimination.{backward}
+use Rattle.elimination.specs.Elimination.{backward}
 use Rattle.passes.specs.declared.Solved.{Solved}
 use Rattle.passes.specs.Sheet.{knot-at}
 use Rattle.passes.specs.Passes.{passes}

@@ -14,7 +14,7 @@ use Rattle.curve.specs.Orders.{numbers-sound, fit-order}
 use Rattle.knots.specs.Lent.{lent}
 use Rattle.rows.specs.declared.End.{End}
 use Rattle.rows.specs.declared.End.the-variants.{Free}
-use Rattle.rows.specs.Elimination.{backward}
+use Rattle.elimination.specs.Elimination.{backward}
 use Rattle.passes.specs.declared.Solved.{Solved}
 use Rattle.passes.specs.Sheet.{knot-at}
 use Rattle.front.specs.Front.{listed}

@@ -19,7 +19,7 @@ use Rattle.curve.specs.Kind.{Kind, quintic}
 use Rattle.curve.specs.Card.{Card, knot, knots, gap, back, on, joint}
 use Rattle.curve.specs.Steps.{stands, slope-beyond, curvature-beyond, in-range}
 use Rattle.curve.proofs.Accepted.{or-false, true-and-false}
-use Rattle.knots.specs.Lent.{left-gap, right-gap, wider-gap}
+use Rattle.minutes.specs.Gaps.{left-gap, right-gap, wider-gap}
 
 within : (limit : ℕ) (z : ℤ) → beyond limit z ≡ false → natAbs z ≤ limit
 unfolding beyond

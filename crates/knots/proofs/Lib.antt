@@ -2,5 +2,4 @@ pub mod Carried
 pub mod Widened
 pub mod Stands
 pub mod Sides
-pub mod Search
 pub mod Accepted

@@ -1,8 +1,8 @@
-// The checks of document 01 on lent lists that need no arithmetic of the curve ("Numbers of refusal", each a step of an order), and the gap of a minute
-// ("The exact curve"). The limits are "constants of the kind of card they belong to".
+// The checks of document 01 on lent lists that need no arithmetic of the curve: "Numbers of refusal", each a step of an order. The limits are "constants of the kind of
+// card they belong to".
 ghost use mathlib.Core.Path.{_≡_};
 ghost use mathlib.Core.List.{List};
-ghost use Prim.Native.Nat.{ℕ, _+_, _-_, _^_, _≤_, _<_, min};
+ghost use Prim.Native.Nat.{ℕ, _^_, _<_};
 ghost use lib.ListN.{length, getD};
 ghost use lib.IntN.{ℤ, pos, natAbs};
 ghost use lib.Signed.{_≤ℤ_};
@@ -10,11 +10,10 @@ ghost use Rattle.whole.specs.Whole.{beyond};
 ghost use Rattle.answer.specs.Answer.{each};
 ghost use Rattle.answer.specs.Judge.{verdict-of, numbered};
 ghost use Rattle.curve.specs.Kind.{quintic};
-ghost use Rattle.curve.specs.Card.{back};
-ghost use Rattle.curve.specs.Reading.{gap-of};
-ghost use Rattle.curve.specs.Steps.{lengths, counted, codes, stands, in-range, outside, room};
+ghost use Rattle.curve.specs.Steps.{lengths, counted, codes, stands, in-range, room};
 ghost use Rattle.knots.specs.Kinds.{quintic-card, kind-of};
-ghost use Rattle.knots.specs.Lent.{lent, left-gap, right-gap, wider-gap};
+ghost use Rattle.knots.specs.Lent.{lent};
+ghost use Rattle.minutes.specs.Gaps.{wider-gap};
 
 // What differs between kinds of card; what they share is below.
 pub struct Kind {
@@ -92,69 +91,7 @@ pub fn room(needed: usize, lent: usize) -> answer::Judged
     answer::refuse(26, 0, lent < needed)
 }
 
-// ---- a knot and its neighbours
-
-// The place before; at the first knot its own.
-pub fn back(i: usize) -> usize
-    ensures { λ r. ⌜ r ≡ back i ⌝ }
-{
-    if i == 0 {
-        return 0;
-    }
-    i - 1
-}
-
-// The place after, of n; at the last knot its own.
-pub fn on(n: usize, i: usize) -> usize
-    requires { ⌜ i < n ⌝ }
-    ensures { λ r. ⌜ r ≡ min (i + 1) (n - 1) ⌝ }
-{
-    if i == n - 1 {
-        return i;
-    }
-    i + 1
-}
-
-// From one minute to another; 0 where it is not after.
-fn gap(from: u16, to: u16) -> u16
-    ensures { λ r. ⌜ r ≡ to - from ⌝ }
-{
-    if to < from {
-        return 0;
-    }
-    to - from
-}
-
-// The gap on the left of a knot; 0 at the first.
-pub fn left_gap(xs: &[u16], i: usize) -> u16
-    requires { ⌜ i < length (now xs) ⌝ }
-    ensures { λ r. ⌜ r ≡ left-gap (now (xs .entry)) i ⌝ }
-{
-    let before = back(i);
-    gap(xs[before], xs[i])
-}
-
-// The gap on the right of a knot; 0 at the last.
-pub fn right_gap(xs: &[u16], i: usize) -> u16
-    requires { ⌜ i < length (now xs) ⌝ }
-    ensures { λ r. ⌜ r ≡ right-gap (now (xs .entry)) i ⌝ }
-{
-    let after = on(xs.len(), i);
-    gap(xs[i], xs[after])
-}
-
-// The wider of the gaps beside a knot.
-fn wider_gap(xs: &[u16], i: usize) -> u16
-    requires { ⌜ i < length (now xs) ⌝ }
-    ensures { λ r. ⌜ r ≡ wider-gap (now (xs .entry)) i ⌝ }
-{
-    let left = left_gap(xs, i);
-    let right = right_gap(xs, i);
-    if left < right {
-        return right;
-    }
-    left
-}
+// ---- 4, 5, 6
 
 // Beyond a limit, on either side.
 fn beyond(limit: i32, z: i32) -> bool
@@ -167,8 +104,6 @@ fn beyond(limit: i32, z: i32) -> bool
     limit < z
 }
 
-// ---- 4, 5, 6
-
 // The number at a knot; 0 where it stands.
 fn stands_at(xs: &[u16], ys: &[i16], i: usize) -> u32
     requires { ⌜ (i < length (now xs)) × (i < length (now ys)) ⌝ }
@@ -180,7 +115,7 @@ fn stands_at(xs: &[u16], ys: &[i16], i: usize) -> u32
             return 4;
         }
     }
-    if Kind::GAP < left_gap(xs, i) {
+    if Kind::GAP < minutes::left_gap(xs, i) {
         return 5;
     }
     if beyond(Kind::ORDINATE, y as i32) {
@@ -227,7 +162,7 @@ fn curvature_beyond(xs: &[u16], cs: &[i32], i: usize) -> bool
     ensures { λ r. ⌜ r ≡ beyond (quintic .curvatures (wider-gap (now (xs .entry)) i)) (getD (now (cs .entry)) i (pos 0)) ⌝ }
 {
     let c = cs[i];
-    beyond(curvature_limit(wider_gap(xs, i)), c)
+    beyond(curvature_limit(minutes::wider_gap(xs, i)), c)
 }
 
 // The number at a knot; 0 where both are in range.
@@ -258,33 +193,4 @@ pub fn in_range(xs: &[u16], ms: &[i32], cs: &[i32]) -> answer::Judged
         i += 1;
     }
     answer::Judged::Accepted
-}
-
-// ---- a minute
-
-// 11.
-pub fn outside(xs: &[u16], minute: u16) -> answer::Judged
-    requires { ⌜ 0 < length (now xs) ⌝ }
-    ensures { λ r. ⌜ verdict-of r ≡ outside (now (xs .entry)) minute ⌝ }
-{
-    if minute < xs[0] {
-        return answer::Judged::Refused(11, 0);
-    }
-    let last = xs.len() - 1;
-    answer::refuse(11, 0, xs[last] < minute)
-}
-
-// The gap of a minute, by the place of its left knot.
-pub fn gap_of(xs: &[u16], minute: u16) -> usize
-    requires { ⌜ 2 ≤ length (now xs) ⌝ }
-    ensures { λ r. ⌜ r ≡ gap-of (now (xs .entry)) minute ⌝ }
-{
-    let mut i = xs.len() - 2;
-    while 0 < i {
-        if xs[i] <= minute {
-            return i;
-        }
-        i -= 1;
-    }
-    0
 }

@@ -18,7 +18,7 @@ use Rattle.curve.specs.Orders.{lists-order}
 use Rattle.curve.proofs.Accepted.{Good, good}
 use Rattle.card_bytes.specs.Bytes.{quintic-head}
 use Rattle.card_bytes.specs.Held.{card-of}
-use Rattle.card_bytes.specs.Decoded.{most}
+use Rattle.decode.specs.Decoded.{most}
 use Rattle.card_bytes.proofs.RoundTrip.{accepted-card}
 use Rattle.card.specs.declared.Checked.{Checked}
 use Rattle.card.specs.Answers.{own, into, checked, over}

@@ -23,7 +23,8 @@ use Rattle.curve.proofs.Gap.{IsGap, gap-is, in-card}
 use Rattle.answer.specs.Answer.{accepted}
 use Rattle.knots.specs.declared.Kind.{Kind}
 use Rattle.knots.specs.Kinds.{kind-of}
-use Rattle.knots.specs.Lent.{lent, left-gap, right-gap}
+use Rattle.minutes.specs.Gaps.{left-gap, right-gap}
+use Rattle.knots.specs.Lent.{lent}
 use Rattle.knots.proofs.Accepted.{Stood, stood, Ranged, ranged, right-narrow, place-after, right-gap-is, curvature-by-left, curvature-by-right, curvature-before, curvature-after}
 use Rattle.gaps.specs.declared.Knot.{Knot}
 use Rattle.gaps.specs.declared.Order.{Order}

@@ -13,7 +13,8 @@ use Rattle.curve.specs.Card.{Card, knot, back}
 use Rattle.curve.specs.Reading.{Reading, reads}
 use Rattle.curve.specs.Steps.{stands, in-range}
 use Rattle.knots.specs.declared.Kind.{Kind}
-use Rattle.knots.specs.Lent.{lent, left-gap, right-gap}
+use Rattle.minutes.specs.Gaps.{left-gap, right-gap}
+use Rattle.knots.specs.Lent.{lent}
 use Rattle.gaps.specs.declared.Knot.{Knot}
 use Rattle.gaps.specs.declared.Order.{Order}
 use Rattle.gaps.specs.declared.Order.the-variants.{Third, Fourth}

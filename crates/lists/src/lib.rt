@@ -91,11 +91,11 @@ fn joint_at(xs: &[u16], ys: &[i16], ms: &[i32], cs: &[i32], i: usize) -> Joint
     requires { ⌜ i < length (now xs) ⌝ }
     ensures { λ r. ⌜ r ≡ joint-at (now (xs .entry)) (now (ys .entry)) (now (ms .entry)) (now (cs .entry)) i ⌝ }
 {
-    let before = knot_at(ys, ms, cs, knots::back(i));
+    let before = knot_at(ys, ms, cs, minutes::back(i));
     let here = knot_at(ys, ms, cs, i);
-    let after = knot_at(ys, ms, cs, knots::on(xs.len(), i));
-    let left = knots::left_gap(xs, i) as i64;
-    let right = knots::right_gap(xs, i) as i64;
+    let after = knot_at(ys, ms, cs, minutes::on(xs.len(), i));
+    let left = minutes::left_gap(xs, i) as i64;
+    let right = minutes::right_gap(xs, i) as i64;
     Joint {
         left,
         right,
@@ -271,10 +271,10 @@ pub fn read_at(xs: &[u16], ys: &[i16], ms: &[i32], cs: &[i32], minute: u16) -> C
     requires { ⌜ 2 ≤ length (now xs) ⌝ }
     ensures { λ r. ⌜ ((left right : ℕ) → r ≡ answered (reading-order accepted (lent (now (xs .entry)) (now (ys .entry)) (now (ms .entry)) (now (cs .entry)) left right) minute)) ⌝ }
 {
-    let outside = knots::outside(xs, minute);
+    let outside = minutes::outside(xs, minute);
     match outside {
         answer::Judged::Accepted => {
-            let i = knots::gap_of(xs, minute);
+            let i = minutes::gap_of(xs, minute);
             read_gap(xs, ys, ms, cs, i, minute)
         }
         answer::Judged::Refused(number, place) => CardReading::refused(number, place),

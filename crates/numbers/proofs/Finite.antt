@@ -3,7 +3,7 @@ use mathlib.Core.Path.{_≡_, refl, sym, subst}
 use mathlib.Core.Bool.{Bool, true, false, _&&_}
 use lib.Dec.{T}
 use Rattle.rows.specs.declared.Pair.{Pair}
-use Rattle.rows.specs.Refusal.{is-finite, both-finite}
+use Rattle.elimination.specs.Refusal.{is-finite, both-finite}
 
 both-true : (a b : Bool) → (a && b) ≡ true → (a ≡ true) × (b ≡ true)
 both-true true true e = (refl, refl)

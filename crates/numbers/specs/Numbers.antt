@@ -7,7 +7,7 @@ use lib.ListN.{getD, replicate}
 use lib.IntN.{ℤ, pos}
 use Rattle.front.specs.Front.{over}
 use Rattle.rows.specs.declared.Pair.{Pair}
-use Rattle.rows.specs.Refusal.{both-finite}
+use Rattle.elimination.specs.Refusal.{both-finite}
 use Rattle.passes.specs.Sheet.{most}
 use Rattle.passes.specs.Back.{no-pair}
 use Rattle.units.specs.Units.{units-of, held}

@@ -29,14 +29,15 @@ use Rattle.knots.proofs.same_lengths.Reads as same-lengths
 use Rattle.knots.proofs.counted.Reads as counted
 use Rattle.knots.proofs.codes.Reads as codes
 use Rattle.knots.proofs.room.Reads as room
-use Rattle.knots.proofs.back.Reads as back
-use Rattle.knots.proofs.on.Reads as on
-use Rattle.knots.proofs.left_gap.Reads as left-gap
-use Rattle.knots.proofs.right_gap.Reads as right-gap
+use Rattle.minutes.proofs.back.Reads as back
+use Rattle.minutes.proofs.on.Reads as on
+use Rattle.minutes.proofs.left_gap.Reads as left-gap
+use Rattle.minutes.proofs.right_gap.Reads as right-gap
+use Rattle.minutes.proofs.wider_gap.Reads as wider-gap
 use Rattle.knots.proofs.stand.Reads as stand
 use Rattle.knots.proofs.in_range.Reads as in-range
-use Rattle.knots.proofs.outside.Reads as outside
-use Rattle.knots.proofs.gap_of.Reads as gap-of
+use Rattle.minutes.proofs.outside.Reads as outside
+use Rattle.minutes.proofs.gap_of.Reads as gap-of
 use Rattle.gaps.proofs.Reading.between.Reads as reading-between
 use Rattle.gaps.proofs.jumps.Reads as jumps
 use Rattle.lists.proofs.numbers_sound.Reads as numbers-sound
@@ -45,23 +46,23 @@ use Rattle.lists.proofs.CardReading.refused.Reads as reading-refused
 use Rattle.lists.proofs.read_at.Reads as read-at
 use Rattle.card_bytes.proofs.head_due.Reads as head-due
 use Rattle.card_bytes.proofs.records_due.Reads as records-due
-use Rattle.card_bytes.proofs.put_card.Reads as put-card
-use Rattle.card_bytes.proofs.Card.none.Reads as card-none
-use Rattle.card_bytes.proofs.Card.of.Reads as card-of
-use Rattle.card_bytes.proofs.Card.give.Reads as card-give
+use Rattle.encode.proofs.put_card.Reads as put-card
+use Rattle.decode.proofs.Card.none.Reads as card-none
+use Rattle.decode.proofs.Card.of.Reads as card-of
+use Rattle.decode.proofs.Card.give.Reads as card-give
 use Rattle.card.proofs.check.Reads as check
 use Rattle.card.proofs.read.Reads as read
 use Rattle.card.proofs.write.Reads as write
 use Rattle.card.proofs.reading.Reads as reading
-use Rattle.rows.proofs.no_pair.Reads as no-pair
-use Rattle.rows.proofs.start.Reads as start
+use Rattle.elimination.proofs.no_pair.Reads as no-pair
+use Rattle.elimination.proofs.start.Reads as start
 use Rattle.rows.proofs.gap_of.Reads as row-gap
 use Rattle.rows.proofs.empty_gap.Reads as empty-gap
 use Rattle.rows.proofs.equations_of.Reads as equations-of
-use Rattle.rows.proofs.back.Reads as row-back
-use Rattle.rows.proofs.finite.Reads as finite
-use Rattle.rows.proofs.finite_pair.Reads as finite-pair
-use Rattle.rows.proofs.eliminate.Reads as eliminate
+use Rattle.elimination.proofs.back.Reads as row-back
+use Rattle.elimination.proofs.finite.Reads as finite
+use Rattle.elimination.proofs.finite_pair.Reads as finite-pair
+use Rattle.elimination.proofs.eliminate.Reads as eliminate
 use Rattle.passes.proofs.pairs_of.Reads as pairs-of
 use Rattle.units.proofs.units_of.Reads as units-of
 use Rattle.ends.proofs.code.Reads as code
@@ -172,12 +173,11 @@ record-cursor = ((λ κs a x y s t p q. ap (λ n. record { at = n }) (one-outcom
 
 -- ---- checks and readings
 
-pub knots-steps : Once same-lengths.Post × Once counted.Post × Once codes.Post × Once room.Post × Once stand.Post × Once in-range.Post × Once outside.Post
-knots-steps =
-    (judgement _, judgement _, judgement _, judgement _, judgement _, (λ κs a x y s t p q. one-judgement (p [] 0 0) (q [] 0 0)), judgement _)
+pub minutes : Once back.Post × Once on.Post × Once left-gap.Post × Once right-gap.Post × Once wider-gap.Post × Once outside.Post × Once gap-of.Post
+minutes = (equation _ _, equation _ _, equation _ _, equation _ _, equation _ _, judgement _, equation _ _)
 
-pub knots-places : Once kind-quintic.Post × Once back.Post × Once on.Post × Once left-gap.Post × Once right-gap.Post × Once gap-of.Post
-knots-places = (equation _ _, equation _ _, equation _ _, equation _ _, equation _ _, equation _ _)
+pub knots : Once kind-quintic.Post × Once same-lengths.Post × Once counted.Post × Once codes.Post × Once room.Post × Once stand.Post × Once in-range.Post
+knots = (equation _ _, judgement _, judgement _, judgement _, judgement _, judgement _, λ κs a x y s t p q. one-judgement (p [] 0 0) (q [] 0 0))
 
 pub gaps : Once reading-between.Post × Once jumps.Post
 gaps = (equation _ _, equation _ _)
@@ -187,13 +187,19 @@ lists = (judgement _, judgement _, equation _ _, λ κs a x y s t p q. one-outco
 
 -- ---- cards
 
+pub card-bytes : Once head-due.Post × Once records-due.Post
+card-bytes = (judgement _, judgement _)
+
 -- the buffer is the eighth parameter
-pub card-bytes : Once head-due.Post × Once records-due.Post × Once card-none.Post × Once card-of.Post × Lent put-card.Post (λ s. now (s .1 .1 .1 .1 .1 .1 .1 .0))
-card-bytes = (judgement _, judgement _, equation _ _, equation _ _, equation _ _)
+pub encode : Lent put-card.Post (λ s. now (s .1 .1 .1 .1 .1 .1 .1 .0))
+encode = equation _ _
+
+pub decode : Once card-none.Post × Once card-of.Post
+decode = (equation _ _, equation _ _)
 
 -- the four lists follow the card
-pub card-given : Four (λ s. now (s .1 .0)) (λ s. now (s .1 .1 .0)) (λ s. now (s .1 .1 .1 .0)) (λ s. now (s .1 .1 .1 .1 .0)) card-give.Post
-card-given = given _ _ _ _ _ _ _ _
+pub decode-given : Four (λ s. now (s .1 .0)) (λ s. now (s .1 .1 .0)) (λ s. now (s .1 .1 .1 .0)) (λ s. now (s .1 .1 .1 .1 .0)) card-give.Post
+decode-given = given _ _ _ _ _ _ _ _
 
 pub card : Once check.Post × Once reading.Post
 card = (equation _ _, equation _ _)
@@ -207,10 +213,11 @@ card-written = written _ _ _
 
 -- ---- the fit
 
-pub rows :
-    Once no-pair.Post × Once start.Post × Once row-gap.Post × Once empty-gap.Post × Once equations-of.Post × Once row-back.Post × Once finite.Post
-    × Once finite-pair.Post × Once eliminate.Post
-rows = (equation _ _, equation _ _, equation _ _, equation _ _, equation _ _, equation _ _, equation _ _, equation _ _, equation _ _)
+pub rows : Once row-gap.Post × Once empty-gap.Post × Once equations-of.Post
+rows = (equation _ _, equation _ _, equation _ _)
+
+pub elimination : Once no-pair.Post × Once start.Post × Once row-back.Post × Once finite.Post × Once finite-pair.Post × Once eliminate.Post
+elimination = (equation _ _, equation _ _, equation _ _, equation _ _, equation _ _, equation _ _)
 
 pub passes : Once pairs-of.Post × Once units-of.Post × Once scale.Post × Lent write-numbers.Post (λ s. now (s .0))
 passes = (equation _ _, equation _ _, equation _ _, equation _ _)

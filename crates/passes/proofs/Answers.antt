@@ -5,11 +5,11 @@ use native.Mathlib.Omega.{arith}
 use mathlib.Core.Path.{_≡_, refl, sym, ap, ap₂, _∙_}
 use mathlib.Core.Bool.{true}
 use lib.ListN.{getD, getD-replicate}
-use Rattle.rows.specs.declared.State.{State}
-use Rattle.rows.specs.declared.Step.{Step}
+use Rattle.elimination.specs.declared.State.{State}
+use Rattle.elimination.specs.declared.Step.{Step}
 use Rattle.rows.specs.declared.Pair.{Pair}
-use Rattle.rows.specs.Elimination.{zero-pair}
-use Rattle.rows.specs.Refusal.{both-finite}
+use Rattle.elimination.specs.Elimination.{zero-pair}
+use Rattle.elimination.specs.Refusal.{both-finite}
 use Rattle.passes.specs.declared.Forward.{Forward}
 use Rattle.passes.specs.declared.Solved.{Solved}
 use Rattle.passes.specs.Sheet.{most}

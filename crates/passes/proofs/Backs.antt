@@ -7,10 +7,10 @@ use native.Mathlib.Decide.{le-ind}
 use mathlib.Core.Path.{_≡_, refl, sym, ap, _∙_}
 use mathlib.Core.Bool.{Bool, true, false}
 use lib.Ieee.{ofBits}
-use Rattle.rows.specs.declared.State.{State}
+use Rattle.elimination.specs.declared.State.{State}
 use Rattle.rows.specs.declared.Pair.{Pair}
-use Rattle.rows.specs.Elimination.{zero-pair}
-use Rattle.rows.specs.Refusal.{both-finite}
+use Rattle.elimination.specs.Elimination.{zero-pair}
+use Rattle.elimination.specs.Refusal.{both-finite}
 use Rattle.passes.specs.Back.{Back, back, stopped, pair-of, turned, settled, tried, retreat, backTo, pair-at}
 
 pub zeros-finite : both-finite zero-pair ≡ true

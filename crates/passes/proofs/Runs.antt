@@ -8,8 +8,8 @@ use mathlib.Core.List.{List}
 use lib.ListN.{length}
 use lib.IntN.{ℤ}
 use Rattle.rows.specs.declared.Gap.{Gap}
-use Rattle.rows.specs.declared.State.{State}
-use Rattle.rows.specs.declared.Step.{Step}
+use Rattle.elimination.specs.declared.State.{State}
+use Rattle.elimination.specs.declared.Step.{Step}
 use Rattle.rows.specs.declared.End.{End}
 use Rattle.passes.specs.Sheet.{knot-between, left-gap, right-gap, knot-at}
 use Rattle.passes.specs.Forward.{Run, going, stuck, landed, advance, runTo}

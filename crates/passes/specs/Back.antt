@@ -5,10 +5,10 @@ use mathlib.Core.Bool.{Bool, cond}
 use lib.Dec.{eqb}
 use lib.Ieee.{nan}
 use Rattle.rows.specs.declared.Pair.{Pair}
-use Rattle.rows.specs.declared.State.{State}
+use Rattle.elimination.specs.declared.State.{State}
 use Rattle.rows.specs.Equations.{pair}
-use Rattle.rows.specs.Elimination.{zero-pair}
-use Rattle.rows.specs.Refusal.{both-finite}
+use Rattle.elimination.specs.Elimination.{zero-pair}
+use Rattle.elimination.specs.Refusal.{both-finite}
 
 -- how far the way back has come: with the pair of the next knot, or stopped at a knot
 pub data Back : Type 0 where

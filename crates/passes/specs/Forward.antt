@@ -4,11 +4,11 @@ use Prim.Native.Nat.{ℕ, zero, suc, _<_}
 use mathlib.Core.Path.{_≡_}
 use lib.ListN.{getD}
 use lib.Ieee.{nan}
-use Rattle.rows.specs.declared.State.{State}
-use Rattle.rows.specs.declared.Step.{Step}
-use Rattle.rows.specs.declared.Step.the-variants.{Went, Stuck}
+use Rattle.elimination.specs.declared.State.{State}
+use Rattle.elimination.specs.declared.Step.{Step}
+use Rattle.elimination.specs.declared.Step.the-variants.{Went, Stuck}
 use Rattle.rows.specs.Equations.{pair, block}
-use Rattle.rows.specs.Elimination.{zero-state}
+use Rattle.elimination.specs.Elimination.{zero-state}
 use Rattle.passes.specs.declared.Forward.{Forward}
 
 -- how far elimination has come: with what it left of the knot before, or stuck at a knot

@@ -4,9 +4,9 @@ use mathlib.Core.List.{List}
 use lib.ListN.{replicate}
 use Rattle.front.specs.Front.{listed}
 use Rattle.rows.specs.declared.Pair.{Pair}
-use Rattle.rows.specs.declared.State.{State}
-use Rattle.rows.specs.declared.Step.{Step}
-use Rattle.rows.specs.Elimination.{zero-pair}
+use Rattle.elimination.specs.declared.State.{State}
+use Rattle.elimination.specs.declared.Step.{Step}
+use Rattle.elimination.specs.Elimination.{zero-pair}
 use Rattle.passes.specs.declared.Solved.{Solved}
 use Rattle.passes.specs.Sheet.{most}
 use Rattle.passes.specs.Forward.{Run, going, stuck, runTo, state-at}

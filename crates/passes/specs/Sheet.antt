@@ -7,12 +7,12 @@ use lib.Dec.{eqb}
 use lib.ListN.{length, getD}
 use lib.IntN.{ℤ, pos}
 use Rattle.rows.specs.declared.Gap.{Gap}
-use Rattle.rows.specs.declared.State.{State}
-use Rattle.rows.specs.declared.Step.{Step}
+use Rattle.elimination.specs.declared.State.{State}
+use Rattle.elimination.specs.declared.Step.{Step}
 use Rattle.rows.specs.declared.End.{End}
 use Rattle.rows.specs.declared.End.the-variants.{Free}
 use Rattle.rows.specs.Equations.{gap, no-gap, equations}
-use Rattle.rows.specs.Refusal.{eliminated}
+use Rattle.elimination.specs.Refusal.{eliminated}
 
 -- the most knots that a sheet may have
 abbrev pub most : ℕ

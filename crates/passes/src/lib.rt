@@ -3,16 +3,16 @@
 ghost use mathlib.Core.Path.{_≡_};
 ghost use Prim.Native.Nat.{_+_, _≤_, _<_};
 ghost use lib.ListN.{length, getD};
-ghost use Rattle.rows.specs.Elimination.{backward};
+ghost use Rattle.elimination.specs.Elimination.{backward};
 ghost use Rattle.passes.specs.Sheet.{most, Rising, end-of, knot-between, right-gap, knot-at};
 ghost use Rattle.passes.specs.Forward.{no-state, Forwarded};
 ghost use Rattle.passes.specs.Back.{turned};
 ghost use Rattle.passes.specs.Passes.{refused, back-from, passes};
+use elimination::State;
+use elimination::Step;
 use rows::End;
 use rows::Gap;
 use rows::Pair;
-use rows::State;
-use rows::Step;
 
 // The most knots that a sheet may have.
 pub const MOST: usize = 64;
@@ -63,7 +63,7 @@ fn knot(n: usize, left: End, right: End, p: Gap, g: Gap, before: State, i: usize
 {
     let end = end_at(n, left, right, i);
     let row = rows::equations_of(p, g, end);
-    rows::eliminate(row, before, i == 0, i + 1 == n)
+    elimination::eliminate(row, before, i == 0, i + 1 == n)
 }
 
 // The gap on a knot's right is kept for the next, whose left it is.
@@ -72,7 +72,7 @@ fn forward_pass(minutes: &[u16], ordinates: &[i16], left: End, right: End) -> Fo
     requires { ⌜ Rising (now minutes) ⌝ }
     ensures { λ r. ⌜ Forwarded (knot-at (now (minutes .entry)) (now (ordinates .entry)) left right) (length (now (minutes .entry))) r ⌝ }
 {
-    let zero = rows::start();
+    let zero = elimination::start();
     let mut states = [zero; MOST];
     let mut before = zero;
     let mut p = rows::empty_gap();
@@ -107,13 +107,17 @@ fn forward_pass(minutes: &[u16], ordinates: &[i16], left: End, right: End) -> Fo
 fn pair_before(x: State, next: Pair, j: usize) -> Pair
     ensures { λ r. ⌜ r ≡ turned backward x next j ⌝ }
 {
-    if j == 0 { x.p } else { rows::back(x, next) }
+    if j == 0 {
+        x.p
+    } else {
+        elimination::back(x, next)
+    }
 }
 
 fn refuse(place: u32) -> Solved
     ensures { λ r. ⌜ r ≡ refused place ⌝ }
 {
-    let zero = rows::no_pair();
+    let zero = elimination::no_pair();
     Solved {
         number: 8,
         place,
@@ -125,7 +129,7 @@ fn back_pass(states: [State; MOST], n: usize) -> Solved
     requires { ⌜ n ≤ most ⌝ }
     ensures { λ r. ⌜ r ≡ back-from backward (λ k. getD states k no-state) n ⌝ }
 {
-    let zero = rows::no_pair();
+    let zero = elimination::no_pair();
     let mut pairs = [zero; MOST];
     let mut next = zero;
     let mut j = 0;
@@ -133,7 +137,7 @@ fn back_pass(states: [State; MOST], n: usize) -> Solved
         let k = n - 1 - j;
         let x = states[k];
         let v = pair_before(x, next, j);
-        if rows::finite_pair(v) {
+        if elimination::finite_pair(v) {
             pairs[k] = v;
             next = v;
         } else {

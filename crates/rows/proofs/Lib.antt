@@ -1,2 +1,1 @@
-pub mod Infinity
 pub mod Difference

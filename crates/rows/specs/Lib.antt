@@ -1,4 +1,2 @@
 pub mod Floats
 pub mod Equations
-pub mod Elimination
-pub mod Refusal

@@ -12,7 +12,7 @@ use lib.Ieee.Bits.{ofBits-toBits}
 use lib.Ieee.Exact.{HasValue, odd-sign}
 use lib.Ieee.Fits.{down-pos}
 use lib.Ieee.Nearest.{closest, closest-same}
-use Rattle.rows.specs.Refusal.{is-finite}
+use Rattle.elimination.specs.Refusal.{is-finite}
 use Rattle.units.specs.Units.{signed, units-of, held}
 use Rattle.units.specs.Bits.{significand, power, size-of}
 use Rattle.units.proofs.Held.{held-signed, nearest-signed}

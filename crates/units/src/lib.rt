@@ -3,7 +3,7 @@ ghost use mathlib.Core.Path.{_≡_};
 ghost use mathlib.Core.Bool.{true};
 ghost use Prim.Native.Nat.{_*_, _^_, _≤_, _<_, min};
 ghost use lib.Ieee.Nearest.{closest};
-ghost use Rattle.rows.specs.Refusal.{is-finite};
+ghost use Rattle.elimination.specs.Refusal.{is-finite};
 ghost use Rattle.units.specs.Units.{signed, units-of, farthest, held};
 ghost use Rattle.units.specs.Bits.{size-of};
 

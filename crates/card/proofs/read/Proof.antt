@@ -5,7 +5,7 @@ use native.Mathlib.Omega.{arith}
 use denote.Ref.{now}
 use Rattle.answer.specs.Answer.{accepted}
 use Rattle.answer.specs.Judge.{verdict-of}
-use Rattle.card_bytes.specs.Decoded.{decoded, Full}
+use Rattle.decode.specs.Decoded.{decoded, Full}
 use Rattle.card_bytes.specs.Held.{card-of}
 use Rattle.card.specs.declared.Checked.{Checked}
 use Rattle.card.specs.Answers.{into, checked}

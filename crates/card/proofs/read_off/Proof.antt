@@ -6,7 +6,7 @@ use lib.Seq.{length-take-le}
 use Rattle.curve.specs.Kind.{quintic}
 use Rattle.curve.specs.Card.{knots}
 use Rattle.curve.proofs.Accepted.{good}
-use Rattle.card_bytes.specs.Decoded.{decoded}
+use Rattle.decode.specs.Decoded.{decoded}
 use Rattle.card.proofs.Lists.{sound-fronts}
 use borrow.Author.Needs.{needs}
 use Rattle.card.proofs.read_off.Statement.{statement}

@@ -2,7 +2,7 @@
 -- Assumes nothing.
 use mathlib.Core.Path.{sym}
 use lib.Seq.{length-take-le}
-use Rattle.card_bytes.specs.Decoded.{decoded}
+use Rattle.decode.specs.Decoded.{decoded}
 use Rattle.card.proofs.Lists.{long-fronts}
 use borrow.Author.Needs.{needs}
 use Rattle.card.proofs.sound.Statement.{statement}

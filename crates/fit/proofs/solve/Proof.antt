@@ -1,7 +1,7 @@
 -- `fit::solve` meets its contract. Assumes nothing.
 use mathlib.Core.Path.{ap, _∙_}
 use lib.ListN.{getD}
-use Rattle.rows.specs.Refusal.{both-finite}
+use Rattle.elimination.specs.Refusal.{both-finite}
 use Rattle.knots.proofs.Accepted.{stood}
 use Rattle.passes.specs.declared.Solved.{Solved}
 use Rattle.passes.specs.Back.{no-pair}

@@ -13,7 +13,7 @@ use Rattle.whole.proofs.Order.{linear}
 use Rattle.whole.proofs.Solve.{v0, v1}
 use Rattle.whole.proofs.Machine.{held, asked, told}
 use Rattle.curve.specs.Kind.{quintic}
-use Rattle.knots.specs.Lent.{wider-gap}
+use Rattle.minutes.specs.Gaps.{wider-gap}
 use Rattle.knots.proofs.curvature_beyond.Statement.{statement}
 use Rattle.knots.proofs.curvature_beyond.Tie as tie
 

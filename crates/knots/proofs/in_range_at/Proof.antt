@@ -6,7 +6,7 @@ use borrow.Author.Needs.{needs}
 use Rattle.answer.specs.Answer.{refuse}
 use Rattle.curve.specs.Card.{knot, knots, gap, on, joint}
 use Rattle.curve.specs.Steps.{slope-beyond, curvature-beyond, in-range}
-use Rattle.knots.specs.Lent.{wider-gap}
+use Rattle.minutes.specs.Gaps.{wider-gap}
 use Rattle.knots.proofs.in_range_at.Statement.{statement}
 use Rattle.knots.proofs.in_range_at.Tie as tie
 

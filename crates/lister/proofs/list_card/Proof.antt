@@ -6,7 +6,7 @@ use lib.IntN.{pos}
 use lib.ListN.{length, replicate}
 use lib.Seq.{length-take-le}
 use denote.Ref.{now}
-use Rattle.card_bytes.specs.Decoded.{most}
+use Rattle.decode.specs.Decoded.{most}
 use Rattle.lister.proofs.Listings.{few, printed-read}
 use borrow.Author.Needs.{needs}
 use Rattle.lister.proofs.list_card.Statement.{statement}

@@ -7,8 +7,8 @@ use mathlib.Core.Path.{_≡_, refl, sym, ap, ap₂, _∙_}
 use mathlib.Core.Bool.{true, false}
 use mathlib.Core.List.{List}
 use lib.ListN.{length, getD, length-set, getD-replicate}
-use Rattle.rows.specs.declared.State.{State}
-use Rattle.rows.specs.Elimination.{backward}
+use Rattle.elimination.specs.declared.State.{State}
+use Rattle.elimination.specs.Elimination.{backward}
 use Rattle.passes.specs.Sheet.{most}
 use Rattle.passes.specs.Forward.{no-state}
 use Rattle.passes.specs.Back.{back, pair-of, backTo, pair-at, no-pair}

@@ -6,7 +6,7 @@ use native.Mathlib.Omega.{arith}
 use mathlib.Core.Path.{_≡_, refl, sym, ap, _∙_}
 use lib.ListN.{length, getD, length-set}
 use borrow.Author.Count.{below-none}
-use Rattle.rows.specs.declared.Step.the-variants.{Went, Stuck}
+use Rattle.elimination.specs.declared.Step.the-variants.{Went, Stuck}
 use Rattle.passes.specs.Sheet.{most, left-gap, knot-at}
 use Rattle.passes.specs.Forward.{going, runTo, state-at, left-by, number-of, place-of, no-state}
 use Rattle.front.proofs.Listed.{grown-up}

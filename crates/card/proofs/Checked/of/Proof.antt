@@ -3,7 +3,7 @@
 use mathlib.Core.Path.{ap}
 use native.Mathlib.Omega.{arith}
 use Rattle.answer.specs.Judge.{verdict-of}
-use Rattle.card_bytes.specs.Decoded.{decoded}
+use Rattle.decode.specs.Decoded.{decoded}
 use Rattle.card.specs.Answers.{checked}
 use Rattle.card.proofs.Lists.{knots-decoded}
 use borrow.Author.Needs.{needs}

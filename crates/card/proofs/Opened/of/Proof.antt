@@ -7,8 +7,8 @@ use Rattle.answer.proofs.Steps.{not-both}
 use Rattle.answer.proofs.Chain.{step-refuses, step-passes}
 use Rattle.curve.specs.Orders.{sound}
 use Rattle.knots.specs.Kinds.{kind-of}
-use Rattle.card_bytes.specs.Decoded.{Holds}
-use Rattle.card_bytes.proofs.Holding.{holds}
+use Rattle.decode.specs.Decoded.{Holds}
+use Rattle.decode.proofs.Holding.{holds}
 use Rattle.card.proofs.Shape.{card-verdict-is, shape-room}
 use borrow.Author.Needs.{needs}
 use Rattle.card.proofs.Opened.of.Statement.{statement}

@@ -1,0 +1,2 @@
+pub mod Elimination
+pub mod Refusal
