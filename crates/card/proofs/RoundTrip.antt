@@ -8,7 +8,7 @@ use lib.Dec.{lit<}
 use lib.ListN.{length}
 use Rattle.answer.specs.Answer.{accepted}
 use Rattle.answer.proofs.Steps.{first-accepts}
-use Rattle.record.specs.Numbers.{Bytes}
+use Rattle.bytes.specs.Numbers.{Bytes}
 use Rattle.curve.specs.Kind.{quintic}
 use Rattle.curve.specs.Card.{Card}
 use Rattle.curve.specs.Orders.{write-order}

@@ -8,7 +8,7 @@ use lib.ListN.{length}
 use borrow.Author.Tests.{ltb-false}
 use Rattle.answer.specs.Answer.{Answer, accepted, _then_}
 use Rattle.answer.proofs.Steps.{then-assoc, first-accepts, next-accepts, refuse-accepts}
-use Rattle.record.specs.Numbers.{numAt}
+use Rattle.bytes.specs.Numbers.{numAt}
 use Rattle.record.proofs.Records.{standing}
 use Rattle.curve.specs.Kind.{Kind, quintic}
 use Rattle.curve.specs.Card.{Card, knots}

@@ -5,7 +5,7 @@ use mathlib.Core.Path.{_≡_}
 use mathlib.Core.List.{List}
 use Rattle.answer.specs.Answer.{Verdict, accepted, _then_}
 use Rattle.answer.specs.Judge.{verdict-of}
-use Rattle.record.specs.Numbers.{numAt}
+use Rattle.bytes.specs.Numbers.{numAt}
 use Rattle.curve.specs.Kind.{Kind}
 use Rattle.curve.specs.Steps.{counted, codes}
 use Rattle.card_bytes.specs.Held.{count-at}

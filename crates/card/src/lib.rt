@@ -37,13 +37,8 @@ fn behind_head(kind: Kind, card: &[u8]) -> Judged
     requires { ⌜ 10 ≤ length (now card) ⌝ }
     ensures { λ r. ⌜ verdict-of r ≡ behind-head (kind-of kind) (now (card .entry)) ⌝ }
 {
-    let n = record::read_u16(card, 4) as usize;
-    match limits(
-        kind,
-        n,
-        record::read_u16(card, 6),
-        record::read_u16(card, 8),
-    ) {
+    let n = bytes::read_u16(card, 4) as usize;
+    match limits(kind, n, bytes::read_u16(card, 6), bytes::read_u16(card, 8)) {
         Judged::Refused(number, place) => Judged::Refused(number, place),
         Judged::Accepted => card_bytes::records_due(card, n),
     }

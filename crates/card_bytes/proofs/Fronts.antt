@@ -1,21 +1,21 @@
 -- What stands behind the longest card of a kind, and one byte more, decides nothing: longer bytes are judged as their front is. Assumes nothing.
-use Prim.Native.Nat.{ℕ, _+_, _*_, _≤_, _<_}
+use Prim.Native.Nat.{ℕ, _+_, _≤_, _<_}
 use mathlib.Core.Path.{_≡_, sym, ap, ap₂, _∙_}
 use mathlib.Core.Bool.{not}
 use mathlib.Core.List.{List}
 use native.Mathlib.Omega.{arith}
-use lib.Dec.{ltb}
 use lib.ListN.{length, take}
 use lib.Seq.{length-take-le}
 use borrow.Author.Tests.{ltb-false, lt-ltb}
-use Rattle.answer.specs.Answer.{Verdict, accepted, refuse}
+use Rattle.answer.specs.Answer.{accepted, refuse}
 use Rattle.answer.proofs.Steps.{then-same, each-same, next-accepts, refuse-accepts}
-use Rattle.record.proofs.Fronts.{number-in-front, record-in-front}
+use Rattle.bytes.proofs.Fronts.{number-in-front}
+use Rattle.record.proofs.Fronts.{record-in-front}
 use Rattle.curve.specs.Kind.{Kind}
 use Rattle.curve.specs.Card.{knots}
 use Rattle.curve.specs.Steps.{size, counted, codes}
 use Rattle.curve.specs.Orders.{card-order}
-use Rattle.card_bytes.specs.Held.{start, count-at, card-of}
+use Rattle.card_bytes.specs.Held.{start, card-of}
 use Rattle.card_bytes.specs.Records.{due, head-due, knot-due, end-due, records-due, card-verdict}
 use Rattle.card_bytes.proofs.Standing.{knots-of}
 

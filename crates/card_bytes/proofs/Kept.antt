@@ -14,10 +14,10 @@ use mir.Syntax.{w16, w32}
 use mir.Val.{SFits}
 use Rattle.front.specs.Front.{listed}
 use Rattle.front.proofs.Listed.{listed-is}
-use Rattle.record.specs.Numbers.{le, numAt, signedBytes}
+use Rattle.bytes.specs.Numbers.{le, numAt, signedBytes}
 use Rattle.record.specs.Record.{header, isAt}
-use Rattle.record.proofs.Numbers.{length-le, stood}
-use Rattle.record.proofs.Signs.{length-signed, stood-signed}
+use Rattle.bytes.proofs.Numbers.{length-le, stood}
+use Rattle.bytes.proofs.Signs.{length-signed, stood-signed}
 use Rattle.record.proofs.Records.{header-stands}
 use Rattle.curve.specs.Card.{Knot, Card, knots, knot}
 use Rattle.curve.specs.Steps.{size}

@@ -9,10 +9,10 @@ use lib.ListN.{length, drop, drop-of-length-le}
 use lib.IntN.{pos}
 use mir.Syntax.{w16, w32}
 use Rattle.front.proofs.Listed.{getD-listed}
-use Rattle.record.specs.Numbers.{numAt, Bytes}
+use Rattle.bytes.specs.Numbers.{numAt, Bytes}
 use Rattle.record.specs.Record.{isAt}
-use Rattle.record.proofs.Numbers.{peel}
-use Rattle.record.proofs.Signs.{peel-signed}
+use Rattle.bytes.proofs.Numbers.{peel}
+use Rattle.bytes.proofs.Signs.{peel-signed}
 use Rattle.record.proofs.Records.{standing, header-made}
 use Rattle.curve.specs.Card.{knot}
 use Rattle.card_bytes.specs.Bytes.{head-bytes, knot-bytes, end-bytes, rows, knot-row, bytes-of}

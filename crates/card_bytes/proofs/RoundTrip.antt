@@ -10,7 +10,7 @@ use borrow.Author.Tests.{eq-eqb, le-ltb}
 use Rattle.answer.specs.Answer.{accepted, _then_}
 use Rattle.answer.proofs.Steps.{first-accepts, next-accepts, both-accept, accepts-refuse}
 use Rattle.front.proofs.Listed.{length-listed}
-use Rattle.record.specs.Numbers.{Bytes}
+use Rattle.bytes.specs.Numbers.{Bytes}
 use Rattle.curve.specs.Kind.{Kind}
 use Rattle.curve.specs.Card.{Card, knots}
 use Rattle.curve.specs.Steps.{lengths, counted, size, room}

@@ -5,8 +5,8 @@ use mathlib.Core.Path.{_≡_}
 use native.Mathlib.Omega.{arith}
 use lib.ListN.{length, length-append}
 use Rattle.record.specs.Record.{header}
-use Rattle.record.proofs.Numbers.{length-le}
-use Rattle.record.proofs.Signs.{length-signed}
+use Rattle.bytes.proofs.Numbers.{length-le}
+use Rattle.bytes.proofs.Signs.{length-signed}
 use Rattle.curve.specs.Card.{Knot, Card, knots}
 use Rattle.curve.specs.Steps.{size}
 use Rattle.card_bytes.specs.Bytes.{head-bytes, knot-bytes, end-bytes, rows, knot-row, bytes-of}

@@ -4,7 +4,7 @@ use mathlib.Core.Path.{_≡_, refl}
 use mathlib.Core.List.{List, [], _∷_}
 use lib.ListN.{length, take}
 use Rattle.answer.specs.Answer.{accepted, refused, _then_, refuse, each}
-use Rattle.record.specs.Numbers.{le, un, numAt, signedBytes, signedAt}
+use Rattle.bytes.specs.Numbers.{le, un, numAt, signedBytes, signedAt}
 use Rattle.record.specs.Record.{header, isAt}
 use Rattle.curve.specs.Card.{knots, knot}
 use Rattle.curve.proofs.Cases.{table-3, p1}

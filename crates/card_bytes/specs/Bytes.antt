@@ -4,7 +4,7 @@ use Prim.Native.Nat.{ℕ, zero, suc}
 use mathlib.Core.List.{List, [], _++_}
 use lib.IntN.{ℤ}
 use mir.Syntax.{w16, w32}
-use Rattle.record.specs.Numbers.{le, signedBytes}
+use Rattle.bytes.specs.Numbers.{le, signedBytes}
 use Rattle.record.specs.Record.{header}
 use Rattle.curve.specs.Card.{Knot, Card, knots, knot}
 

@@ -5,7 +5,7 @@ use mathlib.Core.List.{List}
 use lib.IntN.{ℤ}
 use mir.Syntax.{w16, w32}
 use Rattle.front.specs.Front.{listed}
-use Rattle.record.specs.Numbers.{numAt, signedAt}
+use Rattle.bytes.specs.Numbers.{numAt, signedAt}
 use Rattle.curve.specs.Card.{Knot, Card}
 
 -- where the record of a knot starts, behind a head of 10 bytes; the end's starts where one more knot's would

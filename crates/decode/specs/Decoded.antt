@@ -6,7 +6,7 @@ use Prim.Native.Nat.{ℕ, _≤_}
 use lib.ListN.{length, take, replicate}
 use lib.IntN.{pos}
 use Rattle.front.specs.Front.{over}
-use Rattle.record.specs.Numbers.{numAt}
+use Rattle.bytes.specs.Numbers.{numAt}
 use Rattle.curve.specs.Card.{Card}
 use Rattle.card_bytes.specs.Held.{minute-at, ordinate-at, slope-at, curvature-at, count-at, card-of}
 use Rattle.decode.specs.declared.Card.{Card as Decoded}

@@ -46,7 +46,7 @@ impl Card {
         requires { ⌜ (count-at (now list) ≤ most) × (start (count-at (now list)) ≤ length (now list)) ⌝ }
         ensures { λ r. ⌜ r ≡ held (now (list .entry)) ⌝ }
     {
-        let n = record::read_u16(list, 4) as usize;
+        let n = bytes::read_u16(list, 4) as usize;
         let mut minutes = [0u16; Kind::MOST];
         let mut ordinates = [0i16; Kind::MOST];
         let mut slopes = [0i32; Kind::MOST];
@@ -54,16 +54,16 @@ impl Card {
         let mut i: usize = 0;
         while i < n {
             let at = 10 + 16 * i;
-            minutes[i] = record::read_u16(list, at + 4);
-            ordinates[i] = record::read_i16(list, at + 6);
-            slopes[i] = record::read_i32(list, at + 8);
-            curvatures[i] = record::read_i32(list, at + 12);
+            minutes[i] = bytes::read_u16(list, at + 4);
+            ordinates[i] = bytes::read_i16(list, at + 6);
+            slopes[i] = bytes::read_i32(list, at + 8);
+            curvatures[i] = bytes::read_i32(list, at + 12);
             i += 1;
         }
         Card {
             knots: n,
-            left: record::read_u16(list, 6),
-            right: record::read_u16(list, 8),
+            left: bytes::read_u16(list, 6),
+            right: bytes::read_u16(list, 8),
             minutes,
             ordinates,
             slopes,

@@ -11,31 +11,31 @@ fn put_head(buffer: &mut [u8], head: u16, n: u16, left: u16, right: u16)
     requires { ⌜ 10 ≤ length (now buffer) ⌝ }
     ensures { λ _. ⌜ now (buffer .exit) ≡ sets (now (buffer .entry)) 0 (head-bytes head n left right) ⌝ }
 {
-    record::write_u16(buffer, 0, 6);
-    record::write_u16(buffer, 2, head);
-    record::write_u16(buffer, 4, n);
-    record::write_u16(buffer, 6, left);
-    record::write_u16(buffer, 8, right);
+    bytes::write_u16(buffer, 0, 6);
+    bytes::write_u16(buffer, 2, head);
+    bytes::write_u16(buffer, 4, n);
+    bytes::write_u16(buffer, 6, left);
+    bytes::write_u16(buffer, 8, right);
 }
 
 fn put_knot(buffer: &mut [u8], at: usize, x: u16, y: i16, m: i32, c: i32)
     requires { ⌜ at + 16 ≤ length (now buffer) ⌝ }
     ensures { λ _. ⌜ now (buffer .exit) ≡ sets (now (buffer .entry)) at (knot-bytes (a-knot x y m c)) ⌝ }
 {
-    record::write_u16(buffer, at, 12);
-    record::write_u16(buffer, at + 2, 2);
-    record::write_u16(buffer, at + 4, x);
-    record::write_i16(buffer, at + 6, y);
-    record::write_i32(buffer, at + 8, m);
-    record::write_i32(buffer, at + 12, c);
+    bytes::write_u16(buffer, at, 12);
+    bytes::write_u16(buffer, at + 2, 2);
+    bytes::write_u16(buffer, at + 4, x);
+    bytes::write_i16(buffer, at + 6, y);
+    bytes::write_i32(buffer, at + 8, m);
+    bytes::write_i32(buffer, at + 12, c);
 }
 
 fn put_end(buffer: &mut [u8], at: usize)
     requires { ⌜ at + 4 ≤ length (now buffer) ⌝ }
     ensures { λ _. ⌜ now (buffer .exit) ≡ sets (now (buffer .entry)) at end-bytes ⌝ }
 {
-    record::write_u16(buffer, at, 0);
-    record::write_u16(buffer, at + 2, 3);
+    bytes::write_u16(buffer, at, 0);
+    bytes::write_u16(buffer, at + 2, 3);
 }
 
 // A card's bytes at the front of a buffer that has room for them.

@@ -16,12 +16,12 @@ use Rattle.whole.proofs.nearest.Reads as nearest
 use Rattle.log.proofs.mean_of.Reads as mean-of
 use Rattle.curve.specs.Card.{Card}
 use Rattle.record.proofs.Records.{one-found}
-use Rattle.record.proofs.read_u16.Reads as read-u16
-use Rattle.record.proofs.read_i16.Reads as read-i16
-use Rattle.record.proofs.read_i32.Reads as read-i32
-use Rattle.record.proofs.write_u16.Reads as write-u16
-use Rattle.record.proofs.write_i16.Reads as write-i16
-use Rattle.record.proofs.write_i32.Reads as write-i32
+use Rattle.bytes.proofs.read_u16.Reads as read-u16
+use Rattle.bytes.proofs.read_i16.Reads as read-i16
+use Rattle.bytes.proofs.read_i32.Reads as read-i32
+use Rattle.bytes.proofs.write_u16.Reads as write-u16
+use Rattle.bytes.proofs.write_i16.Reads as write-i16
+use Rattle.bytes.proofs.write_i32.Reads as write-i32
 use Rattle.record.proofs.Cursor.new.Reads as cursor-new
 use Rattle.record.proofs.Cursor.read.Reads as cursor-read
 use Rattle.knots.proofs.Kind.quintic.Reads as kind-quintic
@@ -161,15 +161,15 @@ log = equation _ _
 
 -- ---- bytes
 
-pub record-numbers : Once read-u16.Post × Once read-i16.Post × Once read-i32.Post
-record-numbers = (equation _ _, equation _ _, equation _ _)
+pub bytes-read : Once read-u16.Post × Once read-i16.Post × Once read-i32.Post
+bytes-read = (equation _ _, equation _ _, equation _ _)
 
 -- each writes to its first parameter
-pub record-lists : Lent write-u16.Post (λ s. now (s .0)) × Lent write-i16.Post (λ s. now (s .0)) × Lent write-i32.Post (λ s. now (s .0))
-record-lists = (equation _ _, equation _ _, equation _ _)
+pub bytes-written : Lent write-u16.Post (λ s. now (s .0)) × Lent write-i16.Post (λ s. now (s .0)) × Lent write-i32.Post (λ s. now (s .0))
+bytes-written = (equation _ _, equation _ _, equation _ _)
 
-pub record-cursor : Once cursor-new.Post × Once cursor-read.Post
-record-cursor = ((λ κs a x y s t p q. ap (λ n. record { at = n }) (one-outcome p q)), λ κs a x y s t p q. one-found x y (one-outcome p q))
+pub records : Once cursor-new.Post × Once cursor-read.Post
+records = ((λ κs a x y s t p q. ap (λ n. record { at = n }) (one-outcome p q)), λ κs a x y s t p q. one-found x y (one-outcome p q))
 
 -- ---- checks and readings
 

@@ -7,7 +7,7 @@ use lib.ListN.{take}
 use lib.IntN.{pos, negsuc}
 use mir.Syntax.{w16, w32}
 use Rattle.answer.specs.Answer.{refused, given, _then_, refuse}
-use Rattle.record.specs.Numbers.{le, un, numAt, signedBytes, signedAt}
+use Rattle.bytes.specs.Numbers.{le, un, numAt, signedBytes, signedAt}
 use Rattle.record.specs.Record.{span, header, isAt, recordAt}
 
 abbrev printed : List ℕ

@@ -1,31 +1,15 @@
--- Numbers and records that end within the first bytes of a list are those of the list, whatever stands behind. Assumes nothing.
-use Prim.Native.Nat.{ℕ, zero, suc, _+_, _≤_}
-use mathlib.Core.Path.{_≡_, refl, ap}
-use mathlib.Core.List.{List, [], _∷_}
+-- Records that end within the first bytes of a list are those of the list, whatever stands behind. Assumes nothing.
+use Prim.Native.Nat.{ℕ, _+_, _≤_}
+use mathlib.Core.Path.{_≡_}
+use mathlib.Core.List.{List}
 use native.Mathlib.Omega.{arith}
-use lib.ListN.{length, take, drop}
-use lib.Seq.{take-take, length-take-le}
+use lib.ListN.{length, take}
+use lib.Seq.{length-take-le}
 use borrow.Author.Tests.{le-leb}
-use mir.Syntax.{Width}
-use mir.Val.{bytes, toZ}
-use Rattle.record.specs.Numbers.{un, numAt, signedAt}
+use Rattle.bytes.proofs.Fronts.{number-in-front}
 use Rattle.record.specs.Record.{isAt}
 
-within : (at k n : ℕ) (s : List ℕ) → at + k ≤ n → take k (drop at (take n s)) ≡ take k (drop at s)
-within zero k n s h = take-take k n s (omega arith)
-within (suc at) k zero s h = absurd (omega arith)
-within (suc at) k (suc n) [] h = refl
-within (suc at) k (suc n) (x ∷ s) h = within at k n s (omega arith)
-
 module _ (n : ℕ) (s : List ℕ) where
-  pub number-in-front : (k at : ℕ) → at + k ≤ n → numAt k (take n s) at ≡ numAt k s at
-  unfolding numAt
-  number-in-front k at h = ap un (within at k n s h)
-
-  pub signed-in-front : (w : Width) (at : ℕ) → at + bytes w ≤ n → signedAt w (take n s) at ≡ signedAt w s at
-  unfolding signedAt
-  signed-in-front w at h = ap (toZ w) (number-in-front (bytes w) at h)
-
   pub record-in-front : (at kind long : ℕ) → n ≤ length s → at + (4 + long) ≤ n → isAt (take n s) at kind long ≡ isAt s at kind long
   unfolding isAt
   record-in-front at kind long room h =
@@ -33,6 +17,6 @@ module _ (n : ℕ) (s : List ℕ) where
         length-take-le n s room,
         le-leb (at + (4 + long)) n h,
         le-leb (at + (4 + long)) (length s) (omega arith),
-        number-in-front 2 at (omega arith),
-        number-in-front 2 (at + 2) (omega arith),
+        number-in-front n s 2 at (omega arith),
+        number-in-front n s 2 (at + 2) (omega arith),
       )

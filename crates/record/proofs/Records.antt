@@ -11,12 +11,12 @@ use lib.Dec.{eqb, lit<}
 use borrow.Author.Tests.{le-leb, lt-leb, eq-eqb, ne-eqb, leb-true, eqb-true}
 use Rattle.answer.specs.Answer.{Answer, refused, given, _then_, refuse}
 use Rattle.answer.proofs.Steps.{not-both}
-use Rattle.record.specs.Numbers.{le, numAt, Bytes}
+use Rattle.bytes.specs.Numbers.{le, numAt, Bytes}
 use Rattle.record.specs.Record.{header, isAt, Span, span, found-of, recordAt}
 use Rattle.record.specs.declared.Cursor.{Cursor}
 use Rattle.record.specs.declared.Found.{Found}
 use Rattle.record.specs.declared.Found.the-variants.{Body, Bad}
-use Rattle.record.proofs.Numbers.{peel, stood}
+use Rattle.bytes.proofs.Numbers.{peel, stood}
 
 both : (a b : Bool) → (a && b) ≡ true → (a ≡ true) × (b ≡ true)
 both true b t = (refl, t)

@@ -6,7 +6,7 @@ use mathlib.Core.Bool.{Bool, not, _&&_}
 use lib.ListN.{length}
 use lib.Dec.{leb, eqb}
 use Rattle.answer.specs.Answer.{Answer, refused, given, _then_, refuse}
-use Rattle.record.specs.Numbers.{le, numAt}
+use Rattle.bytes.specs.Numbers.{le, numAt}
 use Rattle.record.specs.declared.Found.{Found}
 use Rattle.record.specs.declared.Found.the-variants.{Body, Bad}
 

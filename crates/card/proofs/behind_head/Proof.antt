@@ -4,7 +4,7 @@ use mathlib.Core.Path.{_≡_, ap, _∙_}
 use denote.Ref.{now}
 use Rattle.answer.specs.Judge.{verdict-of}
 use Rattle.answer.proofs.Chain.{step-refuses, step-passes}
-use Rattle.record.specs.Numbers.{numAt}
+use Rattle.bytes.specs.Numbers.{numAt}
 use Rattle.knots.specs.Kinds.{kind-of}
 use Rattle.card_bytes.specs.Held.{count-at}
 use Rattle.card_bytes.specs.Records.{records-due}

@@ -9,8 +9,8 @@ use lib.ListN.{length, getD}
 use lib.IntN.{pos}
 use lib.Seq.{sets}
 use mir.Syntax.{w16, w32}
-use Rattle.record.proofs.Signs.{passed}
-use Rattle.record.proofs.Stores.{then}
+use Rattle.bytes.proofs.Signs.{passed}
+use Rattle.bytes.proofs.Stores.{then}
 use Rattle.curve.specs.Card.{knots, knot}
 use Rattle.knots.specs.Lent.{lent}
 use Rattle.card_bytes.specs.Bytes.{head-bytes, end-bytes, rows, knot-row, bytes-of}

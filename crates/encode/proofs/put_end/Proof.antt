@@ -1,10 +1,10 @@
 -- `encode::put_end` meets its contract: its stores are one run.
 -- Assumes nothing.
 use denote.Ref.{now}
-use Rattle.record.specs.Numbers.{le}
+use Rattle.bytes.specs.Numbers.{le}
 use Rattle.record.specs.Record.{header}
-use Rattle.record.proofs.Numbers.{length-le}
-use Rattle.record.proofs.Stores.{then}
+use Rattle.bytes.proofs.Numbers.{length-le}
+use Rattle.bytes.proofs.Stores.{then}
 use Rattle.card_bytes.specs.Bytes.{end-bytes}
 use borrow.Author.Needs.{needs}
 use Rattle.encode.proofs.put_end.Statement.{statement}

@@ -3,10 +3,10 @@
 use mathlib.Core.List.{_++_}
 use lib.ListN.{length-append}
 use denote.Ref.{now}
-use Rattle.record.specs.Numbers.{le}
+use Rattle.bytes.specs.Numbers.{le}
 use Rattle.record.specs.Record.{header}
-use Rattle.record.proofs.Numbers.{length-le}
-use Rattle.record.proofs.Stores.{then}
+use Rattle.bytes.proofs.Numbers.{length-le}
+use Rattle.bytes.proofs.Stores.{then}
 use Rattle.card_bytes.specs.Bytes.{head-bytes}
 use borrow.Author.Needs.{needs}
 use Rattle.encode.proofs.put_head.Statement.{statement}

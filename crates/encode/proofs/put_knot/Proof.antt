@@ -5,11 +5,11 @@ use lib.ListN.{length-append}
 use denote.Ref.{now}
 use mir.Syntax.{w16, w32}
 use mir.Facts.{toZ-ofZ}
-use Rattle.record.specs.Numbers.{le, signedBytes}
+use Rattle.bytes.specs.Numbers.{le, signedBytes}
 use Rattle.record.specs.Record.{header}
-use Rattle.record.proofs.Numbers.{length-le}
-use Rattle.record.proofs.Signs.{length-signed}
-use Rattle.record.proofs.Stores.{then}
+use Rattle.bytes.proofs.Numbers.{length-le}
+use Rattle.bytes.proofs.Signs.{length-signed}
+use Rattle.bytes.proofs.Stores.{then}
 use Rattle.card_bytes.specs.Bytes.{knot-bytes}
 use borrow.Author.Needs.{needs}
 use Rattle.encode.proofs.put_knot.Statement.{statement}

@@ -8,7 +8,7 @@ use lib.ListN.{length, getD}
 use mir.Syntax.{w16, w32}
 use mir.Val.{toZ, ofZ}
 use denote.Ref.{now}
-use Rattle.record.proofs.Signs.{passed}
+use Rattle.bytes.proofs.Signs.{passed}
 use Rattle.listing.specs.Put.{Put}
 use Rattle.listing.specs.Text.{knot-line, lines, line-of}
 use Rattle.listing.proofs.Puts.{put-none, put-then, same-room, room-behind}

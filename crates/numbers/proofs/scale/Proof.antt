@@ -3,11 +3,10 @@ use borrow.Author.Needs.{needs}
 use native.Mathlib.Omega.{arith}
 use mathlib.Core.Path.{_≡_, _∙_}
 use Prim.Native.Nat.{ℕ, _-_, _≤_}
-use lib.ListN.{length, getD}
+use lib.ListN.{getD}
 use mir.Syntax.{w32}
 use mir.Val.{toZ, ofZ}
 use Rattle.front.proofs.Filled.{Filled, filled-none, filled-more}
-use Rattle.passes.specs.Sheet.{most}
 use Rattle.passes.specs.Back.{no-pair}
 use Rattle.units.specs.Units.{held}
 use Rattle.numbers.specs.Numbers.{slope-at, curvature-at}

@@ -1,15 +1,15 @@
 -- `numbers::write` meets its contract: a loop that fills the lent list. Assumes nothing.
 use borrow.Author.Needs.{needs}
 use native.Mathlib.Omega.{arith}
-use mathlib.Core.Path.{_≡_, refl, sym, ap, _∙_}
-use mathlib.Core.List.{[], _++_, append-nil}
+use mathlib.Core.Path.{_≡_, sym, _∙_}
+use mathlib.Core.List.{append-nil}
 use Prim.Native.Nat.{_-_, _≤_}
-use lib.ListN.{length, getD, drop, length-set}
+use lib.ListN.{length, getD, length-set}
 use lib.IntN.{pos}
 use lib.Seq.{drop-length}
 use mir.Syntax.{w32}
 use mir.Val.{toZ, ofZ}
-use Rattle.front.specs.Front.{listed, from}
+use Rattle.front.specs.Front.{from}
 use Rattle.front.proofs.Listed.{front-listed}
 use Rattle.front.proofs.Filled.{Filled, filled-none, filled-more}
 use Rattle.passes.specs.Sheet.{most}

@@ -6,9 +6,6 @@ use borrow.Author.Needs.{needs}
 use Rattle.record.proofs.Records.{cut, other-length, of-kind}
 use Rattle.record.proofs.is_at.Statement.{statement}
 use Rattle.record.proofs.is_at.Tie as tie
-use Rattle.record.proofs.is_at.Reads as reads
-use Rattle.record.proofs.is_at.Lts as lts
-use Rattle.record.proofs.read_u16.Reads as read-u16-reads
 
 returns : tie.Need-returns
 returns c =

@@ -7,7 +7,7 @@ use lib.IntN.{pos}
 use mir.Syntax.{w16, w32}
 use Rattle.front.specs.Front.{from}
 use Rattle.front.proofs.Filled.{Filled, filled-none, filled-more, filled-by}
-use Rattle.record.proofs.Signs.{passed}
+use Rattle.bytes.proofs.Signs.{passed}
 use Rattle.decode.specs.Decoded.{decoded}
 use Rattle.decode.proofs.Card.give.Statement.{statement}
 use Rattle.decode.proofs.Card.give.Tie as tie

@@ -5,7 +5,7 @@ use mathlib.Core.Path.{_≡_, _∙_}
 use native.Mathlib.Omega.{arith}
 use mir.Syntax.{w16, w32}
 use Rattle.front.proofs.Filled.{Filled, filled-none, filled-more}
-use Rattle.record.proofs.Signs.{passed}
+use Rattle.bytes.proofs.Signs.{passed}
 use Rattle.decode.specs.Decoded.{held}
 use Rattle.card_bytes.specs.Held.{minute-at, ordinate-at, slope-at, curvature-at}
 use borrow.Author.Needs.{needs}

@@ -8,10 +8,6 @@ use Rattle.record.specs.Record.{isAt}
 use Rattle.record.proofs.Records.{standing, found, bad}
 use Rattle.record.proofs.Cursor.read.Statement.{statement}
 use Rattle.record.proofs.Cursor.read.Tie as tie
-use Rattle.record.proofs.Cursor.read.Reads as reads
-use Rattle.record.proofs.Cursor.read.Lts as lts
-use Rattle.record.proofs.Cursor.new.Reads as new-reads
-use Rattle.record.proofs.is_at.Reads as is-at-reads
 
 there : (c : tie.Then1)
     → (let a = c .before .before .before .args in isAt (now (a .list)) (a .self .at) (a .kind) (a .length) ≡ true)

@@ -1,0 +1,4 @@
+pub mod Numbers
+pub mod Stores
+pub mod Signs
+pub mod Fronts
