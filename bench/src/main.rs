@@ -1,10 +1,8 @@
 //! Times four functions of the library beside plain Rust that does the same with the same refusals: the fit of 64 knots, a
 //! reading off a card of 64 knots, the check of such a card, the mean of 60 bytes. The two are compared first. Rounds of
-//! the one and the other take turns; each number is the median round, in nanoseconds for one call. Then the stack that the
-//! library's functions take, in bytes.
+//! the one and the other take turns; each number is the median round, in nanoseconds for one call.
 
 mod plain;
-mod stack;
 
 use independent::boundary;
 use independent::curves::{self, Numbers, Sheet};
@@ -167,28 +165,4 @@ fn main() {
             black_box(plain::mean(black_box(600), black_box(&inputs.logs[i])));
         },
     );
-
-    println!("\n{:<36} {:>10}", "", "stack bytes");
-    let (card, bytes, minute) = (&inputs.cards[0], &inputs.bytes[0], inputs.minutes[0]);
-    let sheet = &card.sheet;
-    let mut buffer = vec![0; bytes.len()];
-    stack::line("fit of 64 knots", || {
-        black_box(boundary::fit(&sheet.minutes, &sheet.ordinates, &mut slopes, &mut curvatures));
-    });
-    let (mut minutes, mut ordinates) = ([0; KNOTS], [0; KNOTS]);
-    stack::line("reading a card of 64 knots into lists", || {
-        black_box(boundary::read(bytes, &mut minutes, &mut ordinates, &mut other_slopes, &mut other_curvatures));
-    });
-    stack::line("check of a card of 64 knots", || {
-        black_box(boundary::check(bytes));
-    });
-    stack::line("reading off a card of 64 knots", || {
-        black_box(boundary::reading(bytes, minute));
-    });
-    stack::line("writing a card of 64 knots", || {
-        black_box(boundary::write(&sheet.minutes, &sheet.ordinates, &card.slopes, &card.curvatures, 0, 0, &mut buffer));
-    });
-    stack::line("mean of 60 bytes", || {
-        black_box(boundary::mean(600, &inputs.logs[0]));
-    });
 }

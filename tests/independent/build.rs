@@ -1,5 +1,6 @@
 //! Links libkaihveto.a from the folder that KAIHVETO_LIB names, or from where `rt staticlib kaihveto` writes it.
-//! Where there is none yet, the package still builds, without the comparison (the cfg `linked` is then off).
+//! Where there is none yet, the package still builds, without the comparison (the cfg `linked` is then off). The archive is for x86-64: on another processor
+//! nothing is linked, and the calls go to a program that is (src/far.rs).
 
 use std::env;
 use std::path::PathBuf;
@@ -17,7 +18,9 @@ fn main() {
     println!("cargo:rerun-if-changed={}", archive.display());
     if archive.is_file() {
         println!("cargo:rustc-cfg=linked");
-        println!("cargo:rustc-link-search=native={}", folder.display());
-        println!("cargo:rustc-link-lib=static=kaihveto");
+        if env::var("CARGO_CFG_TARGET_ARCH").as_deref() == Ok("x86_64") {
+            println!("cargo:rustc-link-search=native={}", folder.display());
+            println!("cargo:rustc-link-lib=static=kaihveto");
+        }
     }
 }

@@ -1,5 +1,8 @@
 //! The library's functions as they are linked, each wrapped so that safe Rust can call it: a slice passes as its pointer and
-//! then its length, an answer comes back by value.
+//! then its length, an answer comes back by value. The archive is for x86-64; elsewhere `far` has functions of the same names.
+
+#[cfg(not(target_arch = "x86_64"))]
+use crate::far::*;
 
 /// What kaihveto_mean answers.
 #[repr(C)]
@@ -59,6 +62,7 @@ pub struct End {
     pub curvature: f64,
 }
 
+#[cfg(target_arch = "x86_64")]
 extern "C" {
     fn kaihveto_mean(minute: u16, log: *const u8, log_length: usize) -> Mean;
     fn kaihveto_fit(

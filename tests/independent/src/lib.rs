@@ -8,6 +8,8 @@ mod cases;
 #[cfg(linked)]
 pub mod compare;
 pub mod curves;
+#[cfg(all(linked, not(target_arch = "x86_64")))]
+mod far;
 #[cfg(linked)]
 pub mod groups;
 pub mod lines;

@@ -1,0 +1,126 @@
+/* The library for a process that cannot link it: takes calls on standard input and writes their answers on standard output, each as it lies in the memory of a
+   little-endian machine. A call is a letter and its arguments in the order of kaihveto.h: a number in 8 bytes, a list as its length in 8 bytes and its elements. An
+   answer is the struct, and then each list that the function may write to. */
+#include "kaihveto.h"
+
+#include <stdio.h>
+#include <stdlib.h>
+
+struct list {
+    void *first;
+    size_t length;
+    size_t bytes;
+};
+
+static void take(void *to, size_t bytes) {
+    if (fread(to, 1, bytes, stdin) != bytes)
+        exit(1);
+}
+
+static void give(const void *from, size_t bytes) {
+    if (fwrite(from, 1, bytes, stdout) != bytes)
+        exit(1);
+}
+
+static uint64_t number(void) {
+    uint64_t n;
+    take(&n, sizeof n);
+    return n;
+}
+
+static double real(void) {
+    double x;
+    take(&x, sizeof x);
+    return x;
+}
+
+static struct list list(size_t width) {
+    struct list l;
+    l.length = number();
+    l.bytes = l.length * width;
+    l.first = malloc(l.bytes + width);
+    if (l.first == NULL)
+        exit(1);
+    take(l.first, l.bytes);
+    return l;
+}
+
+static void give_back(struct list l) {
+    give(l.first, l.bytes);
+}
+
+int main(void) {
+    int letter;
+    while ((letter = getchar()) != EOF) {
+        struct list a, b, c, d, e;
+        switch (letter) {
+        case 'm': {
+            uint64_t minute = number();
+            a = list(1);
+            kaihveto_mean_answer r = kaihveto_mean((uint16_t)minute, a.first, a.length);
+            give(&r, sizeof r);
+            free(a.first);
+            break;
+        }
+        case 'f':
+        case 'e': {
+            a = list(2), b = list(2), c = list(4), d = list(4);
+            kaihveto_fit_answer r;
+            if (letter == 'f') {
+                r = kaihveto_fit(a.first, a.length, b.first, b.length, c.first, c.length, d.first, d.length);
+            } else {
+                uint64_t left = number();
+                double left_slope = real(), left_curvature = real();
+                uint64_t right = number();
+                double right_slope = real(), right_curvature = real();
+                r = kaihveto_fit_ends(a.first, a.length, b.first, b.length, c.first, c.length, d.first, d.length, (uint16_t)left,
+                                      left_slope, left_curvature, (uint16_t)right, right_slope, right_curvature);
+            }
+            give(&r, sizeof r);
+            give_back(c), give_back(d);
+            free(a.first), free(b.first), free(c.first), free(d.first);
+            break;
+        }
+        case 'w': {
+            a = list(2), b = list(2), c = list(4), d = list(4);
+            uint64_t left = number(), right = number();
+            e = list(1);
+            kaihveto_write_answer r = kaihveto_write(a.first, a.length, b.first, b.length, c.first, c.length, d.first, d.length,
+                                                     (uint16_t)left, (uint16_t)right, e.first, e.length);
+            give(&r, sizeof r);
+            give_back(e);
+            free(a.first), free(b.first), free(c.first), free(d.first), free(e.first);
+            break;
+        }
+        case 'c': {
+            a = list(1);
+            kaihveto_card_answer r = kaihveto_check(a.first, a.length);
+            give(&r, sizeof r);
+            free(a.first);
+            break;
+        }
+        case 'r': {
+            e = list(1), a = list(2), b = list(2), c = list(4), d = list(4);
+            kaihveto_card_answer r =
+                kaihveto_read(e.first, e.length, a.first, a.length, b.first, b.length, c.first, c.length, d.first, d.length);
+            give(&r, sizeof r);
+            give_back(a), give_back(b), give_back(c), give_back(d);
+            free(a.first), free(b.first), free(c.first), free(d.first), free(e.first);
+            break;
+        }
+        case 'o': {
+            a = list(1);
+            uint64_t minute = number();
+            kaihveto_reading_answer r = kaihveto_reading(a.first, a.length, (uint16_t)minute);
+            give(&r, sizeof r);
+            free(a.first);
+            break;
+        }
+        default:
+            return 1;
+        }
+        if (fflush(stdout) != 0)
+            return 1;
+    }
+    return 0;
+}

@@ -1,0 +1,76 @@
+/* How many bytes of stack each function takes at a card of 64 knots: the stack below a call is painted, the call is made, and what it painted over is counted. The
+   first call of each is not measured, since the loader binds symbols in it. Ends with 1 where a call is refused or takes 32 KiB. */
+#include "kaihveto.h"
+
+#include <stdio.h>
+
+enum { KNOTS = KAIHVETO_MOST_KNOTS, DEPTH = 1 << 16, MOST = 1 << 15, PAINT = 0xa5 };
+
+static uint16_t minutes[KNOTS];
+static int16_t ordinates[KNOTS];
+static int32_t slopes[KNOTS], curvatures[KNOTS];
+static uint8_t card[KAIHVETO_CARD_BYTES(KNOTS)], log_bytes[60];
+
+static uint32_t mean(void) {
+    return kaihveto_mean(0, log_bytes, sizeof log_bytes).number;
+}
+
+static uint32_t fit(void) {
+    return kaihveto_fit(minutes, KNOTS, ordinates, KNOTS, slopes, KNOTS, curvatures, KNOTS).number;
+}
+
+static uint32_t fit_ends(void) {
+    return kaihveto_fit_ends(minutes, KNOTS, ordinates, KNOTS, slopes, KNOTS, curvatures, KNOTS, KAIHVETO_FREE, 0, 0, KAIHVETO_FREE, 0, 0).number;
+}
+
+static uint32_t write_card(void) {
+    return kaihveto_write(minutes, KNOTS, ordinates, KNOTS, slopes, KNOTS, curvatures, KNOTS, KAIHVETO_FREE, KAIHVETO_FREE, card, sizeof card).number;
+}
+
+static uint32_t check(void) {
+    return kaihveto_check(card, sizeof card).number;
+}
+
+static uint32_t read_card(void) {
+    return kaihveto_read(card, sizeof card, minutes, KNOTS, ordinates, KNOTS, slopes, KNOTS, curvatures, KNOTS).number;
+}
+
+static uint32_t reading(void) {
+    return kaihveto_reading(card, sizeof card, 333).number;
+}
+
+static void paint(void) {
+    volatile uint8_t below[DEPTH];
+    for (size_t i = 0; i < DEPTH; i++)
+        below[i] = PAINT;
+    (void)below[0];
+}
+
+static void (*volatile painter)(void) = paint;
+
+static int line(const char *name, uint32_t (*volatile call)(void)) {
+    uint8_t here;
+    uint32_t number = call();
+    painter();
+    number |= call();
+    uintptr_t top = (uintptr_t)&here, at = top - DEPTH + 1024;
+    while (at < top && *(volatile uint8_t *)at == PAINT)
+        at++;
+    printf("%-16s %6lu bytes of stack%s\n", name, (unsigned long)(top - at), number == 0 ? "" : ", refused");
+    return number == 0 && top - at < MOST;
+}
+
+int main(void) {
+    for (int i = 0; i < KNOTS; i++) {
+        minutes[i] = (uint16_t)(10 * i);
+        ordinates[i] = (int16_t)(4000 + 100 * (i % 7) - 30 * (i % 4));
+    }
+    int good = line("mean", mean);
+    good &= line("fit", fit);
+    good &= line("fit_ends", fit_ends);
+    good &= line("write", write_card);
+    good &= line("check", check);
+    good &= line("read", read_card);
+    good &= line("reading", reading);
+    return good ? 0 : 1;
+}

@@ -1,0 +1,181 @@
+//! The library's functions on a machine that cannot link them, since the archive is for x86-64: each call goes to tests/c/far.c, which is linked with the archive and
+//! runs in a process of its own. KAIHVETO_FAR names that program, and KAIHVETO_RUN the command that runs it.
+
+use crate::boundary::{Checked, Fitted, Mean, Reading, Written};
+use std::env;
+use std::io::{BufReader, Read, Write};
+use std::mem::{size_of, MaybeUninit};
+use std::process::{ChildStdin, ChildStdout, Command, Stdio};
+use std::sync::{Mutex, MutexGuard};
+
+struct Far {
+    calls: ChildStdin,
+    answers: BufReader<ChildStdout>,
+}
+
+static FAR: Mutex<Option<Far>> = Mutex::new(None);
+
+fn start() -> Far {
+    let named = |name: &str| env::var_os(name).unwrap_or_else(|| panic!("{name} is not set: tests/run sets it"));
+    let child = Command::new(named("KAIHVETO_RUN")).arg(named("KAIHVETO_FAR")).stdin(Stdio::piped()).stdout(Stdio::piped()).spawn();
+    let mut child = child.expect("the far program starts");
+    let calls = child.stdin.take().expect("its input is a pipe");
+    let answers = BufReader::new(child.stdout.take().expect("its output is a pipe"));
+    Far { calls, answers }
+}
+
+/// A call, as far.c takes it.
+struct Call(Vec<u8>);
+
+impl Call {
+    fn new(letter: u8) -> Call {
+        Call(vec![letter])
+    }
+
+    fn number(mut self, n: u64) -> Call {
+        self.0.extend_from_slice(&n.to_le_bytes());
+        self
+    }
+
+    fn real(self, x: f64) -> Call {
+        self.number(x.to_bits())
+    }
+
+    /// `first` points to `length` elements, as the caller of each function below vouches.
+    unsafe fn list<T>(self, first: *const T, length: usize) -> Call {
+        let mut call = self.number(length as u64);
+        call.0.extend_from_slice(std::slice::from_raw_parts(first.cast::<u8>(), length * size_of::<T>()));
+        call
+    }
+
+    fn made(self) -> Answer {
+        let mut far = FAR.lock().expect("no call before this one failed");
+        far.get_or_insert_with(start).calls.write_all(&self.0).expect("the far program takes calls");
+        Answer(far)
+    }
+}
+
+struct Answer(MutexGuard<'static, Option<Far>>);
+
+impl Answer {
+    fn bytes(&mut self, to: &mut [u8]) {
+        self.0.as_mut().expect("it was started").answers.read_exact(to).expect("the far program answers");
+    }
+
+    /// T is one of the answers, of which any bytes are one.
+    unsafe fn answer<T>(&mut self) -> T {
+        let mut answer = MaybeUninit::<T>::zeroed();
+        self.bytes(std::slice::from_raw_parts_mut(answer.as_mut_ptr().cast::<u8>(), size_of::<T>()));
+        answer.assume_init()
+    }
+
+    unsafe fn list<T>(&mut self, first: *mut T, length: usize) {
+        self.bytes(std::slice::from_raw_parts_mut(first.cast::<u8>(), length * size_of::<T>()));
+    }
+}
+
+pub unsafe fn kaihveto_mean(minute: u16, log: *const u8, log_length: usize) -> Mean {
+    Call::new(b'm').number(minute.into()).list(log, log_length).made().answer()
+}
+
+unsafe fn fitted(call: Call, slopes: *mut i32, slopes_length: usize, curvatures: *mut i32, curvatures_length: usize) -> Fitted {
+    let mut far = call.made();
+    let answer = far.answer();
+    far.list(slopes, slopes_length);
+    far.list(curvatures, curvatures_length);
+    answer
+}
+
+#[allow(clippy::too_many_arguments)]
+pub unsafe fn kaihveto_fit(
+    minutes: *const u16,
+    minutes_length: usize,
+    ordinates: *const i16,
+    ordinates_length: usize,
+    slopes: *mut i32,
+    slopes_length: usize,
+    curvatures: *mut i32,
+    curvatures_length: usize,
+) -> Fitted {
+    let knots = Call::new(b'f').list(minutes, minutes_length).list(ordinates, ordinates_length);
+    let call = knots.list(slopes, slopes_length).list(curvatures, curvatures_length);
+    fitted(call, slopes, slopes_length, curvatures, curvatures_length)
+}
+
+#[allow(clippy::too_many_arguments)]
+pub unsafe fn kaihveto_fit_ends(
+    minutes: *const u16,
+    minutes_length: usize,
+    ordinates: *const i16,
+    ordinates_length: usize,
+    slopes: *mut i32,
+    slopes_length: usize,
+    curvatures: *mut i32,
+    curvatures_length: usize,
+    left: u16,
+    left_slope: f64,
+    left_curvature: f64,
+    right: u16,
+    right_slope: f64,
+    right_curvature: f64,
+) -> Fitted {
+    let knots = Call::new(b'e').list(minutes, minutes_length).list(ordinates, ordinates_length);
+    let lists = knots.list(slopes, slopes_length).list(curvatures, curvatures_length);
+    let ended = lists.number(left.into()).real(left_slope).real(left_curvature);
+    let call = ended.number(right.into()).real(right_slope).real(right_curvature);
+    fitted(call, slopes, slopes_length, curvatures, curvatures_length)
+}
+
+#[allow(clippy::too_many_arguments)]
+pub unsafe fn kaihveto_write(
+    minutes: *const u16,
+    minutes_length: usize,
+    ordinates: *const i16,
+    ordinates_length: usize,
+    slopes: *const i32,
+    slopes_length: usize,
+    curvatures: *const i32,
+    curvatures_length: usize,
+    left: u16,
+    right: u16,
+    buffer: *mut u8,
+    buffer_length: usize,
+) -> Written {
+    let knots = Call::new(b'w').list(minutes, minutes_length).list(ordinates, ordinates_length);
+    let lists = knots.list(slopes, slopes_length).list(curvatures, curvatures_length);
+    let mut far = lists.number(left.into()).number(right.into()).list(buffer, buffer_length).made();
+    let answer = far.answer();
+    far.list(buffer, buffer_length);
+    answer
+}
+
+pub unsafe fn kaihveto_check(card: *const u8, card_length: usize) -> Checked {
+    Call::new(b'c').list(card, card_length).made().answer()
+}
+
+#[allow(clippy::too_many_arguments)]
+pub unsafe fn kaihveto_read(
+    card: *const u8,
+    card_length: usize,
+    minutes: *mut u16,
+    minutes_length: usize,
+    ordinates: *mut i16,
+    ordinates_length: usize,
+    slopes: *mut i32,
+    slopes_length: usize,
+    curvatures: *mut i32,
+    curvatures_length: usize,
+) -> Checked {
+    let knots = Call::new(b'r').list(card, card_length).list(minutes, minutes_length).list(ordinates, ordinates_length);
+    let mut far = knots.list(slopes, slopes_length).list(curvatures, curvatures_length).made();
+    let answer = far.answer();
+    far.list(minutes, minutes_length);
+    far.list(ordinates, ordinates_length);
+    far.list(slopes, slopes_length);
+    far.list(curvatures, curvatures_length);
+    answer
+}
+
+pub unsafe fn kaihveto_reading(card: *const u8, card_length: usize, minute: u16) -> Reading {
+    Call::new(b'o').list(card, card_length).number(minute.into()).made().answer()
+}
