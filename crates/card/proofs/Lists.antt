@@ -20,7 +20,7 @@ use Rattle.lists.specs.Lists.{Long, Checked as Sound-lists}
 use Rattle.decode.specs.declared.Card.{Card as Decoded}
 use Rattle.card_bytes.specs.Bytes.{quintic-head}
 use Rattle.card_bytes.specs.Held.{card-of}
-use Rattle.decode.specs.Decoded.{decoded, Full, Holds}
+use Rattle.decode.specs.Decoded.{most, decoded, Full, Holds}
 use Rattle.card.specs.Steps.{Opens}
 use Rattle.card.specs.Answers.{own, into, checked, over}
 use Rattle.card.specs.declared.Checked.{Checked}
@@ -112,7 +112,7 @@ taken xs ys ms Ms s e =
     }
 
 pub record Ready (c : Card) (lent : ℕ) : Type 0 where
-  pub few : length (c .minutes) ≤ 64
+  pub few : length (c .minutes) ≤ most
   pub ordinates : length (c .ordinates) ≡ length (c .minutes)
   pub slopes : length (c .slopes) ≡ length (c .minutes)
   pub curvatures : length (c .curvatures) ≡ length (c .minutes)

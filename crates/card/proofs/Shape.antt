@@ -21,6 +21,7 @@ use Rattle.knots.proofs.Carried.{quintic-is}
 use Rattle.card_bytes.specs.Held.{start, count-at, card-of}
 use Rattle.card_bytes.specs.Records.{head-due, records-due, card-verdict}
 use Rattle.card_bytes.proofs.Standing.{knots-of, due-stands, whole, whole-size}
+use Rattle.decode.specs.Decoded.{most}
 use Rattle.card.specs.Steps.{limited, behind-head, shaped}
 
 -- ---- the same steps, bracketed as the definitions have them
@@ -50,16 +51,16 @@ unfolding head-due
 headed head s e = standing s 0 head 6 (due-stands s 0 head 6 e) .whole
 
 module _ (k : Carried) where
-  pub limits-within : (n left right : ℕ) → limited (kind-of k) n left right ≡ accepted → n ≤ 64
+  pub limits-within : (n left right : ℕ) → limited (kind-of k) n left right ≡ accepted → n ≤ most
   unfolding limited counted quintic
-  limits-within n left right e = ltb-false 64 n (refuse-accepts 2 0 _ (next-accepts _ _ (first-accepts _ _ e)))
+  limits-within n left right e = ltb-false most n (refuse-accepts 2 0 _ (next-accepts _ _ (first-accepts _ _ e)))
 
-  pub shape-room : (head : ℕ) (s : List ℕ) → shaped (kind-of k) head s ≡ accepted → (count-at s ≤ 64) × (start (count-at s) ≤ length s)
+  pub shape-room : (head : ℕ) (s : List ℕ) → shaped (kind-of k) head s ≡ accepted → (count-at s ≤ most) × (start (count-at s) ≤ length s)
   unfolding shaped behind-head
   shape-room head s e =
       let b = next-accepts (head-due head s) _ e in
       (limits-within _ _ _ (first-accepts _ _ b), omega (arith, whole-size (whole (first-accepts _ _ e) (next-accepts _ _ b))))
 
-pub accepted-few : (c : Card) → verdict quintic c ≡ accepted → knots c ≤ 64
+pub accepted-few : (c : Card) → verdict quintic c ≡ accepted → knots c ≤ most
 unfolding quintic
 accepted-few c e = good quintic c e .many

@@ -11,6 +11,7 @@ use Rattle.curve.specs.Kind.{quintic}
 use Rattle.curve.specs.Card.{knots}
 use Rattle.curve.specs.Orders.{verdict, write-order}
 use Rattle.knots.specs.Lent.{lent}
+use Rattle.decode.specs.Decoded.{most}
 use Rattle.card.proofs.Shape.{carried, accepted-few}
 use borrow.Author.Needs.{needs}
 use Rattle.card.proofs.writable.Statement.{statement}
@@ -20,7 +21,7 @@ judged-is : (c : tie.After-judged)
     → (let a = c .before .before .before .args in verdict-of (c .judged .result) ≡ verdict quintic (lent (now (a .minutes)) (now (a .ordinates)) (now (a .slopes)) (now (a .curvatures)) (a .left) (a .right)))
 judged-is c = rw (carried (c .before .quintic .ensures)) at (c .judged .ensures)
 
-few : (c : tie.After-enum-told) → length (now (c .before .before .before .before .before .args .minutes)) ≤ 64
+few : (c : tie.After-enum-told) → length (now (c .before .before .before .before .before .args .minutes)) ≤ most
 unfolding knots
 few c = accepted-few _ (sym (judged-is (c .before .before)) ∙ ap verdict-of (c .enum-told .given .1))
 
