@@ -8,12 +8,12 @@ use borrow.Author.Needs.{needs}
 use Rattle.whole.proofs.Solve.{:neg, v0 as n}
 use Rattle.whole.proofs.Interval.{Iv, ±, ∈-abs}
 use Rattle.whole.proofs.Machine.{held, In, step, back}
-use Rattle.units.specs.Units.{signed}
+use Rattle.units.specs.Units.{signed, farthest}
 use Rattle.units.proofs.signed.Statement.{statement}
 use Rattle.units.proofs.signed.Tie as tie
 
 abbrev tops : List Iv
-tops = ± 1073741824 ∷ []
+tops = ± farthest ∷ []
 
 within : (c : tie.Start) → In w32 (held (pos (c .args .n)) ∷ []) tops
 within c = record { each = (∈-abs (c .pre), tt) }
