@@ -10,6 +10,9 @@ use Rattle.answer.specs.declared.Judged.the-variants.{Accepted, Refused}
 pub step-accepts : {v : Verdict} {j : Judged} → verdict-of j ≡ v → j ≡ Accepted → v ≡ accepted
 step-accepts e q = sym e ∙ ap verdict-of q
 
+pub step-refused : {v : Verdict} {j : Judged} {n p : ℕ} → verdict-of j ≡ v → j ≡ Refused n p → v ≡ refused n p
+step-refused e q = sym e ∙ ap verdict-of q
+
 module _ {A : Type 0} {v : Verdict} {j : Judged} (b : Answer A) (e : verdict-of j ≡ v) where
   pub step-refuses : {n p : ℕ} → j ≡ Refused n p → refused n p ≡ (v then b)
   unfolding _then_

@@ -3,3 +3,4 @@ pub mod Loops
 pub mod Chain
 pub mod Never
 pub mod Outcome
+pub mod Lent

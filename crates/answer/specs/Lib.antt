@@ -1,2 +1,3 @@
 pub mod Answer
 pub mod Judge
+pub mod Lent

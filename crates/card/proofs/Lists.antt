@@ -1,77 +1,45 @@
--- What the answers and the lent lists are, from what the code has: an opened card, the verdict, and the list that was given or written.
+-- What the answers and the lent lists are, from what the code has: an opened card, the verdict, and the lists that were given.
 -- Assumes nothing.
-use Prim.Native.Nat.{ℕ, _+_, _≤_}
-use mathlib.Core.Path.{_≡_, refl, sym, _∙_, ap}
+use Prim.Native.Nat.{ℕ, _≤_}
+use mathlib.Core.Path.{_≡_, refl, _∙_, ap}
 use mathlib.Core.List.{List, _++_}
-use native.Mathlib.Omega.{arith}
-use lib.IntN.{ℤ}
 use lib.ListN.{length, take, drop}
-use lib.Seq.{length-take-le, sets, sets-eq}
 use borrow.Author.Tests.{ltb-false}
 use Rattle.answer.specs.Answer.{refused, given, Verdict, accepted}
 use Rattle.answer.specs.Judge.{verdict-of}
 use Rattle.answer.proofs.Steps.{then-same, first-accepts, next-accepts, refuse-accepts}
+use Rattle.answer.proofs.Lent.{after-refused, after-given}
 use Rattle.curve.specs.Kind.{quintic}
 use Rattle.curve.specs.Card.{Card, knots, knot, on, joint}
-use Rattle.curve.specs.Steps.{lengths, counted, codes, slope-beyond, curvature-beyond, in-range, size, room}
-use Rattle.curve.specs.Orders.{numbers-sound, sound, verdict, lists-order, write-order}
-use Rattle.curve.proofs.Accepted.{same-lengths, good}
-use Rattle.lists.specs.Lists.{Long, Checked as Sound-lists}
-use Rattle.decode.specs.declared.Card.{Card as Decoded}
+use Rattle.curve.specs.Steps.{lengths, counted, codes, slope-beyond, curvature-beyond, in-range, room}
+use Rattle.curve.specs.Orders.{numbers-sound, sound, verdict, lists-order}
+use Rattle.curve.proofs.Accepted.{same-lengths}
+use Rattle.lists.specs.Lists.{Checked as Sound-lists}
 use Rattle.card_bytes.specs.Bytes.{quintic-head}
 use Rattle.card_bytes.specs.Held.{card-of}
-use Rattle.decode.specs.Decoded.{most, decoded, Full, Holds}
-use Rattle.card.specs.Steps.{Opens}
-use Rattle.card.specs.Answers.{own, into, checked, over}
+use Rattle.decode.specs.declared.Card.{Card as Decoded}
+use Rattle.decode.specs.Decoded.{decoded, Full, Holds}
+use Rattle.opened.specs.declared.Opened.{Opened}
+use Rattle.opened.specs.Steps.{Opens}
+use Rattle.opened.proofs.Shape.{quintic-few}
+use Rattle.opened.proofs.Fronts.{knots-held, fronts, long-fronts}
+use Rattle.opened.proofs.Opening.{accepted-holds}
 use Rattle.card.specs.declared.Checked.{Checked}
-use Rattle.card.specs.declared.Opened.{Opened}
+use Rattle.card.specs.Answers.{own, checked}
+use Rattle.card.specs.Promise.{Lists, into, Reads}
 
 -- ---- an opened card
 
-pub knots-decoded : (d : Decoded) → Full d → knots (decoded d) ≡ d .knots
-unfolding knots decoded
-knots-decoded d f = length-take-le (d .knots) (d .minutes) (f .minutes)
+pub held : {o : Opened} {s : List ℕ} → Opens quintic quintic-head o s → own s ≡ accepted → Holds (o .card) s
+held = accepted-holds quintic-few
 
-pub knots-held : {d : Decoded} {s : List ℕ} → Holds d s → d .knots ≡ knots (card-of s)
-knots-held {d} h = sym (knots-decoded d (h .full)) ∙ ap knots (h .is)
-
--- its lists are as long as the arrays' fronts
-pub record Fronts (d : Decoded) (c : Card) : Type 0 where
-  pub minutes : length (c .minutes) ≡ d .knots
-  pub ordinates : length (c .ordinates) ≡ d .knots
-  pub slopes : length (c .slopes) ≡ d .knots
-  pub curvatures : length (c .curvatures) ≡ d .knots
-
-pub fronts : {d : Decoded} {s : List ℕ} → Holds d s → Fronts d (card-of s)
-unfolding decoded
-fronts {d} h =
-    let f = h .full in
-    rw (← h .is)
-    (record {
-      minutes = length-take-le (d .knots) (d .minutes) (f .minutes);
-      ordinates = length-take-le (d .knots) (d .ordinates) (f .ordinates);
-      slopes = length-take-le (d .knots) (d .slopes) (f .slopes);
-      curvatures = length-take-le (d .knots) (d .curvatures) (f .curvatures);
-    })
-
--- what the numbers' checks ask of the fronts of the arrays
-module _ {d : Decoded} (f : Full d) where
-  pub long-fronts : Long (take (d .knots) (d .minutes)) (take (d .knots) (d .ordinates)) (take (d .knots) (d .slopes)) (take (d .knots) (d .curvatures))
-  long-fronts =
-      let x = length-take-le (d .knots) (d .minutes) (f .minutes) in
-      record {
-        few = omega (arith, f .few);
-        ordinates = length-take-le (d .knots) (d .ordinates) (f .ordinates) ∙ sym x;
-        slopes = length-take-le (d .knots) (d .slopes) (f .slopes) ∙ sym x;
-        curvatures = length-take-le (d .knots) (d .curvatures) (f .curvatures) ∙ sym x;
-      }
-
-  pub sound-fronts : verdict quintic (decoded d) ≡ accepted
-      → Sound-lists (take (d .knots) (d .minutes)) (take (d .knots) (d .ordinates)) (take (d .knots) (d .slopes)) (take (d .knots) (d .curvatures))
-  unfolding verdict sound numbers-sound decoded knots in-range slope-beyond curvature-beyond joint knot on
-  sound-fronts e =
-      let s = next-accepts (codes quintic _ _) _ (next-accepts (counted quintic _) _ (next-accepts (lengths _ _ _ _) _ e)) in
-      record { long = long-fronts; stand = first-accepts _ _ s; range = first-accepts _ _ (next-accepts _ _ s) }
+-- what a reading asks of the fronts of the arrays
+pub sound-fronts : {d : Decoded} → Full d → verdict quintic (decoded d) ≡ accepted
+    → (let n = d .knots in Sound-lists (take n (d .minutes)) (take n (d .ordinates)) (take n (d .slopes)) (take n (d .curvatures)))
+unfolding verdict sound numbers-sound decoded knots in-range slope-beyond curvature-beyond joint knot on
+sound-fronts f e =
+    let s = next-accepts (codes quintic _ _) _ (next-accepts (counted quintic _) _ (next-accepts (lengths _ _ _ _) _ e)) in
+    record { long = long-fronts f; stand = first-accepts _ _ s; range = first-accepts _ _ (next-accepts _ _ s) }
 
 -- an answer to a verdict on one card is that to the same verdict on another, if they are the same where it accepts
 pub checked-same : {r : Checked} {v : Verdict} (w : Verdict) {c d : Card} → r ≡ checked v d → v ≡ w → (w ≡ accepted → d ≡ c) → r ≡ checked w c
@@ -82,66 +50,57 @@ checked-same {r} {v} w {c} {d} p q f = p ∙ ap (λ u. checked u d) q ∙ go w f
     go (refused n p) f = refl
     go (given u) f = ap (checked (given u)) (f refl)
 
--- "3, the card's, 26", of what was opened
-pub into-is : (xs : List ℕ) (ys ms Ms : List ℤ) {o : Opened} {s : List ℕ} → Opens quintic quintic-head o s
-    → lists-order (length xs) (length ys) (length ms) (length Ms) (verdict-of (o .verdict)) (o .card .knots) ≡ into xs ys ms Ms s
-unfolding into lists-order
-into-is xs ys ms Ms o =
-    then-same refl (λ e. then-same (o .judged) (λ a. ap (λ n. room n (length xs)) (knots-held (o .holds a))))
+-- ---- four lent lists
 
--- ---- what an acceptance leaves
+module _ (l : Lists) (s : List ℕ) where
+  -- "3, the card's, 26", of what was opened
+  pub into-is : {o : Opened} → Opens quintic quintic-head o s
+      → lists-order (length (l .minutes)) (length (l .ordinates)) (length (l .slopes)) (length (l .curvatures)) (verdict-of (o .verdict)) (o .card .knots) ≡ into l s
+  unfolding into lists-order
+  into-is o = then-same refl (λ e. then-same (o .judged) (λ a. ap (λ n. room n (length (l .minutes))) (knots-held (held o a))))
 
-pub record Taken (xs : List ℕ) (ys ms Ms : List ℤ) (s : List ℕ) : Type 0 where
-  pub own : own s ≡ accepted
-  pub ordinates : length ys ≡ length xs
-  pub slopes : length ms ≡ length xs
-  pub curvatures : length Ms ≡ length xs
-  pub room : knots (card-of s) ≤ length xs
+  -- what an acceptance leaves
+  pub record Taken : Type 0 where
+    pub own : own s ≡ accepted
+    pub ordinates : length (l .ordinates) ≡ length (l .minutes)
+    pub slopes : length (l .slopes) ≡ length (l .minutes)
+    pub curvatures : length (l .curvatures) ≡ length (l .minutes)
+    pub room : knots (card-of s) ≤ length (l .minutes)
 
-pub taken : (xs : List ℕ) (ys ms Ms : List ℤ) (s : List ℕ) → into xs ys ms Ms s ≡ accepted → Taken xs ys ms Ms s
-unfolding into lists-order room
-taken xs ys ms Ms s e =
-    let l = same-lengths (length xs) (length ys) (length ms) (length Ms) (first-accepts _ _ e) in
-    let n = next-accepts (lengths _ _ _ _) _ e in
-    record {
-      own = first-accepts _ _ n;
-      ordinates = l .0;
-      slopes = l .1;
-      curvatures = l .2;
-      room = ltb-false _ _ (refuse-accepts 26 0 _ (next-accepts _ _ n));
-    }
+  pub taken : into l s ≡ accepted → Taken
+  unfolding into lists-order room
+  taken e =
+      let n = next-accepts (lengths _ _ _ _) _ e in
+      let same = same-lengths (length (l .minutes)) (length (l .ordinates)) (length (l .slopes)) (length (l .curvatures)) (first-accepts _ _ e) in
+      record {
+        own = first-accepts _ _ n;
+        ordinates = same .0;
+        slopes = same .1;
+        curvatures = same .2;
+        room = ltb-false _ _ (refuse-accepts 26 0 _ (next-accepts _ _ n));
+      }
 
-pub record Ready (c : Card) (lent : ℕ) : Type 0 where
-  pub few : length (c .minutes) ≤ most
-  pub ordinates : length (c .ordinates) ≡ length (c .minutes)
-  pub slopes : length (c .slopes) ≡ length (c .minutes)
-  pub curvatures : length (c .curvatures) ≡ length (c .minutes)
-  pub room : size (length (c .minutes)) ≤ lent
+  -- ---- what the lists hold afterwards
 
-pub ready-of : (c : Card) (lent : ℕ) → write-order quintic c lent ≡ accepted → Ready c lent
-unfolding write-order room knots quintic
-ready-of c lent e =
-    let g = good quintic c (first-accepts _ _ e) in
-    record {
-      few = g .many;
-      ordinates = g .ys;
-      slopes = g .ms;
-      curvatures = g .Ms;
-      room = ltb-false _ _ (refuse-accepts 26 0 _ (next-accepts (verdict quintic c) _ e));
-    }
+  pub reads-refused : {r : Checked} {n p : ℕ} → r ≡ checked (into l s) (card-of s) → into l s ≡ refused n p → Reads s l l r
+  reads-refused a e = record { answer = a; minutes = after-refused _ _ e; ordinates = after-refused _ _ e; slopes = after-refused _ _ e; curvatures = after-refused _ _ e }
 
--- ---- lent lists
+  -- a card's lists over the fronts of four
+  abbrev Gives : Decoded → Lists → Type 0
+  Gives d exit =
+      (exit .minutes ≡ decoded d .minutes ++ drop (d .knots) (l .minutes))
+      × ((exit .ordinates ≡ decoded d .ordinates ++ drop (d .knots) (l .ordinates))
+      × ((exit .slopes ≡ decoded d .slopes ++ drop (d .knots) (l .slopes))
+      × (exit .curvatures ≡ decoded d .curvatures ++ drop (d .knots) (l .curvatures))))
 
-pub over-refused : {A : Type 0} {v : Verdict} {n p : ℕ} (vs d : List A) → v ≡ refused n p → d ≡ over v vs d
-unfolding over
-over-refused vs d e = rw e
-
-pub over-given : {A : Type 0} {v : Verdict} {n : ℕ} (vs d : List A) {e : List A} → v ≡ accepted → length vs ≡ n → e ≡ vs ++ drop n d → e ≡ over v vs d
-unfolding over
-over-given vs d p l q = q ∙ rw (p, l)
-
--- a run of stores at the front
-pub over-written : {v : Verdict} (vs d : List ℕ) {e : List ℕ} → v ≡ accepted → length vs ≤ length d → e ≡ sets d 0 vs → e ≡ over v vs d
-over-written vs d p l q =
-    let z : 0 + length vs ≡ length vs = omega arith in
-    over-given vs d p refl (q ∙ rw z at (sets-eq vs d 0 (omega arith)))
+  pub reads-given : {exit : Lists} {r : Checked} {d : Decoded} → r ≡ checked (into l s) (card-of s) → into l s ≡ accepted → Holds d s → Gives d exit → Reads s l exit r
+  reads-given a e h g =
+      let f = fronts h in
+      let gives = rw (h .is) at g in
+      record {
+        answer = a;
+        minutes = after-given _ _ e (f .minutes) (gives .0);
+        ordinates = after-given _ _ e (f .ordinates) (gives .1 .0);
+        slopes = after-given _ _ e (f .slopes) (gives .1 .1 .0);
+        curvatures = after-given _ _ e (f .curvatures) (gives .1 .1 .1);
+      }

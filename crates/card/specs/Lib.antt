@@ -1,3 +1,2 @@
-pub mod Steps
 pub mod Answers
-pub mod Demand
+pub mod Promise

@@ -1,113 +1,18 @@
-// A card's bytes, tested, read into lent lists, written, and read off at a minute: document 01, "Card bytes", and the orders of "Numbers of refusal".
+// What is done with a card's bytes: tested, read into lent lists, and read off at a minute. Document 01, the orders of "Numbers of refusal".
 // None of the public functions asks anything of its caller.
 use answer::Judged;
 use decode::Card;
-use knots::Kind;
+use opened::Opened;
 ghost use mathlib.Core.Path.{_≡_};
-ghost use Prim.Native.Nat.{_≤_};
-ghost use lib.ListN.{length};
 ghost use Rattle.answer.specs.Answer.{accepted};
 ghost use Rattle.answer.specs.Judge.{verdict-of};
 ghost use Rattle.curve.specs.Kind.{quintic};
-ghost use Rattle.curve.specs.Steps.{size};
-ghost use Rattle.curve.specs.Orders.{sound, verdict, lists-order, write-order, reading-order};
-ghost use Rattle.knots.specs.Kinds.{kind-of};
-ghost use Rattle.knots.specs.Lent.{lent};
+ghost use Rattle.curve.specs.Orders.{verdict, lists-order, reading-order};
 ghost use Rattle.lists.specs.Lists.{answered};
-ghost use Rattle.card_bytes.specs.Bytes.{quintic-head, bytes-of};
 ghost use Rattle.card_bytes.specs.Held.{card-of};
 ghost use Rattle.decode.specs.Decoded.{decoded, Full};
-ghost use Rattle.card.specs.Steps.{limited, behind-head, shaped, Opens};
-ghost use Rattle.card.specs.Answers.{own, into, checked, written, over, read-off};
-
-// ---- a card's own verdict
-
-// 1, 2, 15.
-fn limits(kind: Kind, n: usize, left: u16, right: u16) -> Judged
-    ensures { λ r. ⌜ verdict-of r ≡ limited (kind-of kind) n left right ⌝ }
-{
-    match knots::counted(n) {
-        Judged::Refused(number, place) => Judged::Refused(number, place),
-        Judged::Accepted => knots::codes(kind, left, right),
-    }
-}
-
-// 1, 2; 15; the other records 14.
-fn behind_head(kind: Kind, card: &[u8]) -> Judged
-    requires { ⌜ 10 ≤ length (now card) ⌝ }
-    ensures { λ r. ⌜ verdict-of r ≡ behind-head (kind-of kind) (now (card .entry)) ⌝ }
-{
-    let n = bytes::read_u16(card, 4) as usize;
-    match limits(kind, n, bytes::read_u16(card, 6), bytes::read_u16(card, 8)) {
-        Judged::Refused(number, place) => Judged::Refused(number, place),
-        Judged::Accepted => card_bytes::records_due(card, n),
-    }
-}
-
-// Head 14 before them.
-fn shaped(kind: Kind, head: u16, card: &[u8]) -> Judged
-    ensures { λ r. ⌜ verdict-of r ≡ shaped (kind-of kind) head (now (card .entry)) ⌝ }
-{
-    match card_bytes::head_due(card, head) {
-        Judged::Refused(number, place) => Judged::Refused(number, place),
-        Judged::Accepted => behind_head(kind, card),
-    }
-}
-
-// Per knot 4, 5, 6; 9; 10, of a card that was decoded.
-fn sound(kind: Kind, card: Card) -> Judged
-    requires { ⌜ Full card ⌝ }
-    ensures { λ r. ⌜ verdict-of r ≡ sound (kind-of kind) (decoded card) ⌝ }
-{
-    let n = card.knots;
-    let minutes = card.minutes;
-    let ordinates = card.ordinates;
-    let slopes = card.slopes;
-    let curvatures = card.curvatures;
-    lists::sound(
-        kind,
-        card.left,
-        card.right,
-        &minutes[..n],
-        &ordinates[..n],
-        &slopes[..n],
-        &curvatures[..n],
-    )
-}
-
-// A card's bytes, judged, and decoded once for whatever is done with them.
-struct Opened {
-    verdict: Judged,
-    card: Card,
-}
-
-impl Opened {
-    // As a card of a kind, with that kind's head.
-    fn of(kind: Kind, head: u16, card: &[u8]) -> Opened
-        ensures { λ r. ⌜ Opens (kind-of kind) head r (now (card .entry)) ⌝ }
-    {
-        match shaped(kind, head, card) {
-            Judged::Refused(number, place) => Opened {
-                verdict: Judged::Refused(number, place),
-                card: Card::none(),
-            },
-            Judged::Accepted => {
-                let held = Card::of(card);
-                Opened {
-                    verdict: sound(kind, held),
-                    card: held,
-                }
-            }
-        }
-    }
-
-    // The head says what kind of card it is.
-    fn by_head(card: &[u8]) -> Opened
-        ensures { λ r. ⌜ Opens quintic quintic-head r (now (card .entry)) ⌝ }
-    {
-        Opened::of(Kind::quintic(), Card::QUINTIC, card)
-    }
-}
+ghost use Rattle.card.specs.Answers.{own, checked, read-off};
+ghost use Rattle.card.specs.Promise.{lists, Reads};
 
 // ---- the card test
 
@@ -184,11 +89,7 @@ pub fn read(
     slopes: &mut [i32],
     curvatures: &mut [i32],
 ) -> Checked
-    ensures { λ r. ⌜ r ≡ checked (into (now (minutes .entry)) (now (ordinates .entry)) (now (slopes .entry)) (now (curvatures .entry)) (now (card .entry))) (card-of (now (card .entry))) ⌝ }
-    ensures { λ r. ⌜ now (minutes .exit) ≡ over (into (now (minutes .entry)) (now (ordinates .entry)) (now (slopes .entry)) (now (curvatures .entry)) (now (card .entry))) (card-of (now (card .entry)) .minutes) (now (minutes .entry)) ⌝ }
-    ensures { λ r. ⌜ now (ordinates .exit) ≡ over (into (now (minutes .entry)) (now (ordinates .entry)) (now (slopes .entry)) (now (curvatures .entry)) (now (card .entry))) (card-of (now (card .entry)) .ordinates) (now (ordinates .entry)) ⌝ }
-    ensures { λ r. ⌜ now (slopes .exit) ≡ over (into (now (minutes .entry)) (now (ordinates .entry)) (now (slopes .entry)) (now (curvatures .entry)) (now (card .entry))) (card-of (now (card .entry)) .slopes) (now (slopes .entry)) ⌝ }
-    ensures { λ r. ⌜ now (curvatures .exit) ≡ over (into (now (minutes .entry)) (now (ordinates .entry)) (now (slopes .entry)) (now (curvatures .entry)) (now (card .entry))) (card-of (now (card .entry)) .curvatures) (now (curvatures .entry)) ⌝ }
+    ensures { λ r. ⌜ Reads (now (card .entry)) (lists (minutes .entry) (ordinates .entry) (slopes .entry) (curvatures .entry)) (lists (minutes .exit) (ordinates .exit) (slopes .exit) (curvatures .exit)) r ⌝ }
 {
     let opened = Opened::by_head(card);
     let held = opened.card;
@@ -204,110 +105,6 @@ pub fn read(
     }
     held.give(minutes, ordinates, slopes, curvatures);
     Checked::of(verdict, held)
-}
-
-// ---- the writer
-
-// 3, 1, 2, 15; per knot 4, 5, 6; 9; 10.
-fn judged(
-    kind: Kind,
-    minutes: &[u16],
-    ordinates: &[i16],
-    slopes: &[i32],
-    curvatures: &[i32],
-    left: u16,
-    right: u16,
-) -> Judged
-    ensures { λ r. ⌜ verdict-of r ≡ verdict (kind-of kind) (lent (now (minutes .entry)) (now (ordinates .entry)) (now (slopes .entry)) (now (curvatures .entry)) left right) ⌝ }
-{
-    let n = minutes.len();
-    match knots::same_lengths(n, ordinates.len(), slopes.len(), curvatures.len()) {
-        Judged::Refused(number, place) => Judged::Refused(number, place),
-        Judged::Accepted => match limits(kind, n, left, right) {
-            Judged::Refused(number, place) => Judged::Refused(number, place),
-            Judged::Accepted => lists::sound(
-                kind,
-                left,
-                right,
-                minutes,
-                ordinates,
-                slopes,
-                curvatures,
-            ),
-        },
-    }
-}
-
-// And 26.
-fn writable(
-    minutes: &[u16],
-    ordinates: &[i16],
-    slopes: &[i32],
-    curvatures: &[i32],
-    left: u16,
-    right: u16,
-    bytes: usize,
-) -> Judged
-    ensures { λ r. ⌜ verdict-of r ≡ write-order quintic (lent (now (minutes .entry)) (now (ordinates .entry)) (now (slopes .entry)) (now (curvatures .entry)) left right) bytes ⌝ }
-{
-    let kind = Kind::quintic();
-    match judged(kind, minutes, ordinates, slopes, curvatures, left, right) {
-        Judged::Refused(number, place) => Judged::Refused(number, place),
-        Judged::Accepted => knots::room(14 + 16 * minutes.len(), bytes),
-    }
-}
-
-#[repr(C)]
-pub struct Written {
-    pub number: u32,
-    pub place: u32,
-    pub bytes: u32,
-}
-
-// On acceptance the card's bytes are written, and the rest of the buffer stays.
-pub fn write(
-    minutes: &[u16],
-    ordinates: &[i16],
-    slopes: &[i32],
-    curvatures: &[i32],
-    left: u16,
-    right: u16,
-    buffer: &mut [u8],
-) -> Written
-    ensures { λ r. ⌜ r ≡ written (write-order quintic (lent (now (minutes .entry)) (now (ordinates .entry)) (now (slopes .entry)) (now (curvatures .entry)) left right) (length (now (buffer .entry)))) (size (length (now (minutes .entry)))) ⌝ }
-    ensures { λ r. ⌜ now (buffer .exit) ≡ over (write-order quintic (lent (now (minutes .entry)) (now (ordinates .entry)) (now (slopes .entry)) (now (curvatures .entry)) left right) (length (now (buffer .entry)))) (bytes-of quintic-head (lent (now (minutes .entry)) (now (ordinates .entry)) (now (slopes .entry)) (now (curvatures .entry)) left right)) (now (buffer .entry)) ⌝ }
-{
-    let verdict = writable(
-        minutes,
-        ordinates,
-        slopes,
-        curvatures,
-        left,
-        right,
-        buffer.len(),
-    );
-    if let Judged::Refused(number, place) = verdict {
-        return Written {
-            number,
-            place,
-            bytes: 0,
-        };
-    }
-    encode::put_card(
-        Card::QUINTIC,
-        minutes,
-        ordinates,
-        slopes,
-        curvatures,
-        left,
-        right,
-        buffer,
-    );
-    Written {
-        number: 0,
-        place: 0,
-        bytes: (14 + 16 * minutes.len()) as u32,
-    }
 }
 
 // ---- the reading

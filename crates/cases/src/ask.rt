@@ -143,7 +143,7 @@ pub(crate) fn card_of(
     codes: Codes,
     bytes: &mut [u8],
 ) {
-    let written = card::write(
+    let written = writer::write(
         minutes,
         ordinates,
         slopes,

@@ -58,7 +58,7 @@ fn write_table_3(buffer: &mut [u8]) {
     let ordinates = ORDINATES;
     let slopes = SLOPES;
     let curvatures = CURVATURES;
-    card::write(&minutes, &ordinates, &slopes, &curvatures, 0, 0, buffer);
+    writer::write(&minutes, &ordinates, &slopes, &curvatures, 0, 0, buffer);
 }
 
 // Its card, by the writer.

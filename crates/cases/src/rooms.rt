@@ -13,7 +13,7 @@ fn writer(label: &[u8], x: usize, y: usize, m: usize, c: usize, room: usize)
     let slopes = [2048i32; 3];
     let curvatures = [0i32; 3];
     let mut buffer = [0u8; 62];
-    let written = card::write(
+    let written = writer::write(
         &minutes[0..x],
         &ordinates[0..y],
         &slopes[0..m],

@@ -3,10 +3,10 @@
 ghost use mathlib.Core.Path.{_≡_};
 ghost use Prim.Native.Nat.{_≤_};
 ghost use lib.ListN.{length};
-ghost use Rattle.answer.specs.Answer.{accepted, _then_, each};
+ghost use Rattle.answer.specs.Answer.{accepted, each};
 ghost use Rattle.answer.specs.Judge.{verdict-of};
 ghost use Rattle.curve.specs.Kind.{quintic};
-ghost use Rattle.curve.specs.Steps.{lengths, counted, stands};
+ghost use Rattle.curve.specs.Steps.{stands};
 ghost use Rattle.curve.specs.Orders.{numbers-sound};
 ghost use Rattle.passes.specs.Sheet.{most};
 ghost use Rattle.fit.specs.Fit.{standing, eliminated, card-of, tested, fit-of, fit-between, fit-codes, fit};
@@ -20,16 +20,6 @@ use rows::End;
 pub struct Fitted {
     pub number: u32,
     pub place: u32,
-}
-
-// 3, 1, 2; 15.
-fn sized(n: usize, ys: usize, ms: usize, cs: usize, named: Judged) -> Judged
-    ensures { λ r. ⌜ verdict-of r ≡ (lengths n ys ms cs then counted quintic n then verdict-of named) ⌝ }
-{
-    answer::first(
-        knots::same_lengths(n, ys, ms, cs),
-        answer::first(knots::counted(n), named),
-    )
 }
 
 // 9; 10.
@@ -143,7 +133,7 @@ fn fit_into(
 ) -> Fitted
     ensures { λ r. ⌜ Fits (fit-of (now (minutes .entry)) (now (ordinates .entry)) left right (length (now (slopes .entry))) (length (now (curvatures .entry))) (verdict-of named)) (now (slopes .entry)) (now (curvatures .entry)) (now (slopes .exit)) (now (curvatures .exit)) r ⌝ }
 {
-    let sized = sized(
+    let sized = knots::sized(
         minutes.len(),
         ordinates.len(),
         slopes.len(),

@@ -2,17 +2,15 @@
 // an answer is a struct by value whose first fields are document 01's number and place, with zeros behind a refusal. None asks anything of its caller.
 ghost use mathlib.Core.Path.{_≡_};
 ghost use lib.ListN.{length};
-ghost use Rattle.curve.specs.Kind.{quintic};
-ghost use Rattle.curve.specs.Steps.{size};
-ghost use Rattle.curve.specs.Orders.{write-order};
 ghost use Rattle.curve.specs.Log.{mean};
 ghost use Rattle.knots.specs.Lent.{lent};
 ghost use Rattle.log.specs.Answers.{answered};
 ghost use Rattle.fit.specs.Fit.{fit, fit-codes};
 ghost use Rattle.fit.specs.Promise.{Fits};
-ghost use Rattle.card_bytes.specs.Bytes.{quintic-head, bytes-of};
 ghost use Rattle.card_bytes.specs.Held.{card-of};
-ghost use Rattle.card.specs.Answers.{own, into, checked, written, over, read-off};
+ghost use Rattle.card.specs.Answers.{own, checked, read-off};
+ghost use Rattle.card.specs.Promise.{lists, Reads};
+ghost use Rattle.writer.specs.Promise.{Writes};
 
 // The mean of a log that starts at a minute: 16, 12, 13.
 #[no_mangle]
@@ -75,11 +73,10 @@ pub extern "C" fn kaihveto_write(
     left: u16,
     right: u16,
     buffer: &mut [u8],
-) -> card::Written
-    ensures { λ r. ⌜ r ≡ written (write-order quintic (lent (now (minutes .entry)) (now (ordinates .entry)) (now (slopes .entry)) (now (curvatures .entry)) left right) (length (now (buffer .entry)))) (size (length (now (minutes .entry)))) ⌝ }
-    ensures { λ r. ⌜ now (buffer .exit) ≡ over (write-order quintic (lent (now (minutes .entry)) (now (ordinates .entry)) (now (slopes .entry)) (now (curvatures .entry)) left right) (length (now (buffer .entry)))) (bytes-of quintic-head (lent (now (minutes .entry)) (now (ordinates .entry)) (now (slopes .entry)) (now (curvatures .entry)) left right)) (now (buffer .entry)) ⌝ }
+) -> writer::Written
+    ensures { λ r. ⌜ Writes (lent (now (minutes .entry)) (now (ordinates .entry)) (now (slopes .entry)) (now (curvatures .entry)) left right) (now (buffer .entry)) (now (buffer .exit)) r ⌝ }
 {
-    card::write(minutes, ordinates, slopes, curvatures, left, right, buffer)
+    writer::write(minutes, ordinates, slopes, curvatures, left, right, buffer)
 }
 
 // The test of a card's bytes: head 14; 1, 2; 15; the other records 14; per knot 4, 5, 6; 9; 10.
@@ -99,11 +96,7 @@ pub extern "C" fn kaihveto_read(
     slopes: &mut [i32],
     curvatures: &mut [i32],
 ) -> card::Checked
-    ensures { λ r. ⌜ r ≡ checked (into (now (minutes .entry)) (now (ordinates .entry)) (now (slopes .entry)) (now (curvatures .entry)) (now (card .entry))) (card-of (now (card .entry))) ⌝ }
-    ensures { λ r. ⌜ now (minutes .exit) ≡ over (into (now (minutes .entry)) (now (ordinates .entry)) (now (slopes .entry)) (now (curvatures .entry)) (now (card .entry))) (card-of (now (card .entry)) .minutes) (now (minutes .entry)) ⌝ }
-    ensures { λ r. ⌜ now (ordinates .exit) ≡ over (into (now (minutes .entry)) (now (ordinates .entry)) (now (slopes .entry)) (now (curvatures .entry)) (now (card .entry))) (card-of (now (card .entry)) .ordinates) (now (ordinates .entry)) ⌝ }
-    ensures { λ r. ⌜ now (slopes .exit) ≡ over (into (now (minutes .entry)) (now (ordinates .entry)) (now (slopes .entry)) (now (curvatures .entry)) (now (card .entry))) (card-of (now (card .entry)) .slopes) (now (slopes .entry)) ⌝ }
-    ensures { λ r. ⌜ now (curvatures .exit) ≡ over (into (now (minutes .entry)) (now (ordinates .entry)) (now (slopes .entry)) (now (curvatures .entry)) (now (card .entry))) (card-of (now (card .entry)) .curvatures) (now (curvatures .entry)) ⌝ }
+    ensures { λ r. ⌜ Reads (now (card .entry)) (lists (minutes .entry) (ordinates .entry) (slopes .entry) (curvatures .entry)) (lists (minutes .exit) (ordinates .exit) (slopes .exit) (curvatures .exit)) r ⌝ }
 {
     card::read(card, minutes, ordinates, slopes, curvatures)
 }

@@ -1,6 +1,6 @@
 -- The kind that the code carries for document 01's card is the definitions' `quintic`, and every kind that it can carry has the same limits.
 -- Assumes nothing.
-use mathlib.Core.Path.{_≡_, refl}
+use mathlib.Core.Path.{_≡_, refl, ap, _∙_}
 use Prim.Native.Nat.{ℕ}
 use lib.IntN.{ℤ}
 use Rattle.curve.specs.Formula.{Formula}
@@ -36,6 +36,9 @@ quintic-is =
       allowance = λ o g. allowance-same o g i;
       slopes-given = quintic .slopes-given;
     }
+
+pub carried : {k : Carried} → k ≡ quintic-card → kind-of k ≡ quintic
+carried e = ap kind-of e ∙ quintic-is
 
 -- ---- steps that read only limits are the same for every kind
 

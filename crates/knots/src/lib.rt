@@ -7,7 +7,7 @@ ghost use lib.ListN.{length, getD};
 ghost use lib.IntN.{ℤ, pos, natAbs};
 ghost use lib.Signed.{_≤ℤ_};
 ghost use Rattle.whole.specs.Whole.{beyond};
-ghost use Rattle.answer.specs.Answer.{each};
+ghost use Rattle.answer.specs.Answer.{_then_, each};
 ghost use Rattle.answer.specs.Judge.{verdict-of, numbered};
 ghost use Rattle.curve.specs.Kind.{quintic};
 ghost use Rattle.curve.specs.Steps.{lengths, counted, codes, stands, in-range, room};
@@ -82,6 +82,16 @@ pub fn codes(kind: Kind, left: u16, right: u16) -> answer::Judged
         return answer::Judged::Refused(15, 0);
     }
     answer::refuse(15, 1, last < right)
+}
+
+// 3, 1, 2, and 15 where there are code numbers.
+pub fn sized(n: usize, ys: usize, ms: usize, cs: usize, named: answer::Judged) -> answer::Judged
+    ensures { λ r. ⌜ verdict-of r ≡ (lengths n ys ms cs then counted quintic n then verdict-of named) ⌝ }
+{
+    answer::first(
+        same_lengths(n, ys, ms, cs),
+        answer::first(counted(n), named),
+    )
 }
 
 // 26.

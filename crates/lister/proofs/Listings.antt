@@ -21,26 +21,35 @@ use Rattle.card_bytes.specs.Held.{card-of}
 use Rattle.decode.specs.Decoded.{most}
 use Rattle.card_bytes.proofs.RoundTrip.{accepted-card}
 use Rattle.card.specs.declared.Checked.{Checked}
-use Rattle.card.specs.Answers.{own, into, checked, over}
+use Rattle.answer.specs.Lent.{after}
+use Rattle.card.specs.Answers.{own, checked}
+use Rattle.card.specs.Promise.{Lists, into, Reads}
 use Rattle.listing.specs.Text.{listing}
 use Rattle.lister.specs.Printed.{card-listing, printed}
 
 pub held : (s : List ℕ) → own s ≡ accepted → Good quintic (card-of s)
 held s e = good quintic (card-of s) (accepted-card quintic quintic-head s e)
 
--- neither 3 nor 26 is met where four lists of as many places as a card may have knots are lent
-module _ (s xs : List ℕ) (ys ms Ms : List ℤ) (x : length xs ≡ most) (y : length ys ≡ most) (m : length ms ≡ most) (M : length Ms ≡ most) where
-  into-own : into xs ys ms Ms s ≡ own s
+-- four lists of as many places as a card may have knots
+pub record Roomy (l : Lists) : Type 0 where
+  pub minutes : length (l .minutes) ≡ most
+  pub ordinates : length (l .ordinates) ≡ most
+  pub slopes : length (l .slopes) ≡ most
+  pub curvatures : length (l .curvatures) ≡ most
+
+module _ (s : List ℕ) {l : Lists} (roomy : Roomy l) where
+  -- neither 3 nor 26 is met
+  into-own : into l s ≡ own s
   unfolding into lists-order lengths room refuse _then_ quintic
-  into-own = rw (x, y, m, M) (go (own s) refl)
+  into-own = rw (roomy .minutes, roomy .ordinates, roomy .slopes, roomy .curvatures) (go (own s) refl)
     where
       go : (v : Verdict) → own s ≡ v → (v then refuse 26 0 (ltb most (knots (card-of s)))) ≡ v
       go (refused number place) e = refl
       go (given u) e = accepts-refuse 26 0 (le-ltb most (knots (card-of s)) (held s e .many))
 
-  module _ {r : Checked} (e : r ≡ checked (into xs ys ms Ms s) (card-of s)) where
+  module _ {exit : Lists} {r : Checked} (reads : Reads s l exit r) where
     is-own : r ≡ checked (own s) (card-of s)
-    is-own = e ∙ ap (λ v. checked v (card-of s)) into-own
+    is-own = reads .answer ∙ ap (λ v. checked v (card-of s)) into-own
 
     pub few : r .knots ≤ most
     unfolding checked quintic
@@ -50,18 +59,15 @@ module _ (s xs : List ℕ) (ys ms Ms : List ℤ) (x : length xs ≡ most) (y : l
         go (refused number place) e = omega arith
         go (given u) e = held s e .many
 
-    pub printed-read : {xs′ : List ℕ} {ys′ ms′ Ms′ : List ℤ}
-        → xs′ ≡ over (into xs ys ms Ms s) (card-of s .minutes) xs → ys′ ≡ over (into xs ys ms Ms s) (card-of s .ordinates) ys
-        → ms′ ≡ over (into xs ys ms Ms s) (card-of s .slopes) ms → Ms′ ≡ over (into xs ys ms Ms s) (card-of s .curvatures) Ms
-        → listing (r .number) (r .place) (take (r .knots) xs′) (take (r .knots) ys′) (take (r .knots) ms′) (take (r .knots) Ms′) ≡ printed s
-    unfolding printed card-listing checked over knots
-    printed-read x′ y′ m′ M′ = rw (x′, y′, m′, M′, is-own, into-own) (go (own s) refl)
+    pub printed-read : (let n = r .knots in listing (r .number) (r .place) (take n (exit .minutes)) (take n (exit .ordinates)) (take n (exit .slopes)) (take n (exit .curvatures)) ≡ printed s)
+    unfolding printed card-listing checked after knots
+    printed-read = rw (reads .minutes, reads .ordinates, reads .slopes, reads .curvatures, is-own, into-own) (go (own s) refl)
       where
         go : (v : Verdict) → own s ≡ v
             → (let c = card-of s in
             let r = checked v c in
-            listing (r .number) (r .place) (take (r .knots) (over v (c .minutes) xs)) (take (r .knots) (over v (c .ordinates) ys))
-            (take (r .knots) (over v (c .slopes) ms)) (take (r .knots) (over v (c .curvatures) Ms))
+            listing (r .number) (r .place) (take (r .knots) (after v (c .minutes) (l .minutes))) (take (r .knots) (after v (c .ordinates) (l .ordinates)))
+            (take (r .knots) (after v (c .slopes) (l .slopes))) (take (r .knots) (after v (c .curvatures) (l .curvatures)))
             ≡ card-listing v c)
         go (refused number place) e = refl
         go (given u) e =

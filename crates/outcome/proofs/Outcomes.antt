@@ -28,6 +28,7 @@ use Rattle.knots.proofs.Kind.quintic.Reads as kind-quintic
 use Rattle.knots.proofs.same_lengths.Reads as same-lengths
 use Rattle.knots.proofs.counted.Reads as counted
 use Rattle.knots.proofs.codes.Reads as codes
+use Rattle.knots.proofs.sized.Reads as sized
 use Rattle.knots.proofs.room.Reads as room
 use Rattle.minutes.proofs.back.Reads as back
 use Rattle.minutes.proofs.on.Reads as on
@@ -50,10 +51,16 @@ use Rattle.encode.proofs.put_card.Reads as put-card
 use Rattle.decode.proofs.Card.none.Reads as card-none
 use Rattle.decode.proofs.Card.of.Reads as card-of
 use Rattle.decode.proofs.Card.give.Reads as card-give
+use Rattle.opened.proofs.Opening.{one-opened}
+use Rattle.opened.proofs.Opened.by_head.Reads as opened-by-head
+use Rattle.card.specs.declared.Checked.{Checked}
+use Rattle.card.specs.Promise.{Lists, Reads}
 use Rattle.card.proofs.check.Reads as check
 use Rattle.card.proofs.read.Reads as read
-use Rattle.card.proofs.write.Reads as write
 use Rattle.card.proofs.reading.Reads as reading
+use Rattle.writer.specs.declared.Written.{Written}
+use Rattle.writer.specs.Promise.{Writes}
+use Rattle.writer.proofs.write.Reads as write
 use Rattle.elimination.proofs.no_pair.Reads as no-pair
 use Rattle.elimination.proofs.start.Reads as start
 use Rattle.rows.proofs.gap_of.Reads as row-gap
@@ -101,12 +108,12 @@ module _ {K A S : Type 0} (f : K → A → Verdict) where
   judgement : Once (λ (κs : K) (a : A) (x : Judged) (s : S). verdict-of x ≡ f κs a)
   judgement κs a x y s t = one-judgement
 
-module _ {K A X S B : Type 0} (list : S → B) (f : K → A → X) (g : K → A → B) where
-  abbrev Written : K → A → X → S → Type 0
-  Written κs a x s = (x ≡ f κs a) × (list s ≡ g κs a)
+module _ {K A S : Type 0} (card : K → A → Card) (entry : K → A → List ℕ) (exit : S → List ℕ) where
+  abbrev Writing : K → A → Written → S → Type 0
+  Writing κs a x s = Writes (card κs a) (entry κs a) (exit s) x
 
-  written : Once Written × Lent Written list
-  written = ((λ κs a x y s t p q. one-outcome (p .0) (q .0)), λ κs a x y s t p q. one-outcome (p .1) (q .1))
+  writing : Once Writing × Lent Writing exit
+  writing = ((λ κs a x y s t p q. one-outcome (p .answer) (q .answer)), λ κs a x y s t p q. one-outcome (p .buffer) (q .buffer))
 
 module _ {K A X S : Type 0} (xs : S → List ℕ) (ys ms Ms : S → List ℤ) where
   abbrev Four : (K → A → X → S → Type 0) → Type 0
@@ -124,15 +131,20 @@ module _ {K A X S : Type 0} (xs : S → List ℕ) (ys ms Ms : S → List ℤ) wh
       (λ κs a x y s t p q. one-outcome (p .1 .1 .1) (q .1 .1 .1)),
     )
 
-    module _ (e : K → A → X) where
-      abbrev Read : K → A → X → S → Type 0
-      Read κs a x s = (x ≡ e κs a) × Given κs a x s
+module _ {K A S : Type 0} (bytes : K → A → List ℕ) (entry : K → A → Lists) (exit : S → Lists) where
+  abbrev Reading : K → A → Checked → S → Type 0
+  Reading κs a x s = Reads (bytes κs a) (entry κs a) (exit s) x
 
-      behind : {B : Type 0} (list : S → B) → Lent Given list → Lent Read list
-      behind list once κs a x y s t p q = once κs a x y s t (p .1) (q .1)
-
-      read-into : Once Read × Four Read
-      read-into = ((λ κs a x y s t p q. one-outcome (p .0) (q .0)), (behind xs (given .0), behind ys (given .1), behind ms (given .2), behind Ms (given .3)))
+  reading-into : Once Reading × Four (λ s. exit s .minutes) (λ s. exit s .ordinates) (λ s. exit s .slopes) (λ s. exit s .curvatures) Reading
+  reading-into = (
+    (λ κs a x y s t p q. one-outcome (p .answer) (q .answer)),
+    (
+      (λ κs a x y s t p q. one-outcome (p .minutes) (q .minutes)),
+      (λ κs a x y s t p q. one-outcome (p .ordinates) (q .ordinates)),
+      (λ κs a x y s t p q. one-outcome (p .slopes) (q .slopes)),
+      (λ κs a x y s t p q. one-outcome (p .curvatures) (q .curvatures)),
+    ),
+  )
 
 module _ {K A S : Type 0} (fit : K → A → Answer Card) (ms Ms : K → A → List ℤ) (ms′ Ms′ : S → List ℤ) where
   abbrev Fitting : K → A → Fitted → S → Type 0
@@ -176,8 +188,8 @@ records = ((λ κs a x y s t p q. ap (λ n. record { at = n }) (one-outcome p q)
 pub minutes : Once back.Post × Once on.Post × Once left-gap.Post × Once right-gap.Post × Once wider-gap.Post × Once outside.Post × Once gap-of.Post
 minutes = (equation _ _, equation _ _, equation _ _, equation _ _, equation _ _, judgement _, equation _ _)
 
-pub knots : Once kind-quintic.Post × Once same-lengths.Post × Once counted.Post × Once codes.Post × Once room.Post × Once stand.Post × Once in-range.Post
-knots = (equation _ _, judgement _, judgement _, judgement _, judgement _, judgement _, λ κs a x y s t p q. one-judgement (p [] 0 0) (q [] 0 0))
+pub knots : Once kind-quintic.Post × Once same-lengths.Post × Once counted.Post × Once codes.Post × Once sized.Post × Once room.Post × Once stand.Post × Once in-range.Post
+knots = (equation _ _, judgement _, judgement _, judgement _, judgement _, judgement _, judgement _, λ κs a x y s t p q. one-judgement (p [] 0 0) (q [] 0 0))
 
 pub gaps : Once reading-between.Post × Once jumps.Post
 gaps = (equation _ _, equation _ _)
@@ -201,15 +213,18 @@ decode = (equation _ _, equation _ _)
 pub decode-given : Four (λ s. now (s .1 .0)) (λ s. now (s .1 .1 .0)) (λ s. now (s .1 .1 .1 .0)) (λ s. now (s .1 .1 .1 .1 .0)) card-give.Post
 decode-given = given _ _ _ _ _ _ _ _
 
+pub opened : Once opened-by-head.Post
+opened κs a x y s t = one-opened
+
 pub card : Once check.Post × Once reading.Post
 card = (equation _ _, equation _ _)
 
 pub card-read : Once read.Post × Four (λ s. now (s .1 .0)) (λ s. now (s .1 .1 .0)) (λ s. now (s .1 .1 .1 .0)) (λ s. now (s .1 .1 .1 .1 .0)) read.Post
-card-read = read-into _ _ _ _ _ _ _ _ _
+card-read = reading-into _ _ _
 
 -- the buffer is the seventh
 pub card-written : Once write.Post × Lent write.Post (λ s. now (s .1 .1 .1 .1 .1 .1 .0))
-card-written = written _ _ _
+card-written = writing _ _ _
 
 -- ---- the fit
 
@@ -260,7 +275,7 @@ pub boundary-fit-ends : Once c-fit-ends.Post × Lent c-fit-ends.Post (λ s. now 
 boundary-fit-ends = fitting _ _ _ _ _
 
 pub boundary-read : Once c-read.Post × Four (λ s. now (s .1 .0)) (λ s. now (s .1 .1 .0)) (λ s. now (s .1 .1 .1 .0)) (λ s. now (s .1 .1 .1 .1 .0)) c-read.Post
-boundary-read = read-into _ _ _ _ _ _ _ _ _
+boundary-read = reading-into _ _ _
 
 pub boundary-written : Once c-write.Post × Lent c-write.Post (λ s. now (s .1 .1 .1 .1 .1 .1 .0))
-boundary-written = written _ _ _
+boundary-written = writing _ _ _

@@ -1,72 +1,65 @@
 -- `card::read` meets its contract: refused, it writes nothing; accepted, the opened card is given.
 -- Assumes nothing.
 use mathlib.Core.Path.{_≡_, sym, ap, _∙_}
+use mathlib.Core.List.{List}
+use Prim.Native.Nat.{ℕ}
 use native.Mathlib.Omega.{arith}
 use denote.Ref.{now}
 use Rattle.answer.specs.Answer.{accepted}
 use Rattle.answer.specs.Judge.{verdict-of}
-use Rattle.decode.specs.Decoded.{decoded, Full}
+use Rattle.answer.proofs.Chain.{step-refused}
+use Rattle.decode.specs.Decoded.{decoded, Full, Holds}
 use Rattle.card_bytes.specs.Held.{card-of}
+use Rattle.opened.proofs.Fronts.{knots-held}
 use Rattle.card.specs.declared.Checked.{Checked}
-use Rattle.card.specs.Answers.{into, checked}
-use Rattle.card.proofs.Lists.{knots-held, fronts, checked-same, into-is, Taken, taken, over-refused, over-given}
+use Rattle.card.specs.Answers.{checked}
+use Rattle.card.specs.Promise.{Lists, lists, into}
+use Rattle.card.proofs.Lists.{held, checked-same, into-is, Taken, taken, reads-refused, reads-given}
 use borrow.Author.Needs.{needs}
 use Rattle.card.proofs.read.Statement.{statement}
 use Rattle.card.proofs.read.Tie as tie
 
-verdict-is : (c : tie.After-into) → (let a = c .before .before .before .before .before .args in verdict-of (c .into .result) ≡ into (now (a .minutes)) (now (a .ordinates)) (now (a .slopes)) (now (a .curvatures)) (now (a .card)))
-verdict-is c = c .into .ensures ∙ into-is _ _ _ _ (c .before .before .by-head .ensures)
+abbrev bytes : tie.After-into → List ℕ
+bytes c = now (c .before .before .before .before .before .args .card)
 
-full : (c : tie.After-into) → verdict-of (c .into .result) ≡ accepted → Full (c .before .before .by-head .result .card)
-full c e = c .before .before .by-head .ensures .holds (taken _ _ _ _ _ (sym (verdict-is c) ∙ e) .own) .full
+abbrev lent : tie.After-into → Lists
+lent c = let a = c .before .before .before .before .before .args in lists (a .minutes) (a .ordinates) (a .slopes) (a .curvatures)
 
-answered : (c : tie.After-into) {r : Checked} → r ≡ checked (verdict-of (c .into .result)) (decoded (c .before .before .by-head .result .card))
-    → (let a = c .before .before .before .before .before .args in r ≡ checked (into (now (a .minutes)) (now (a .ordinates)) (now (a .slopes)) (now (a .curvatures)) (now (a .card))) (card-of (now (a .card))))
-answered c e = checked-same _ e (verdict-is c) (λ v. c .before .before .by-head .ensures .holds (taken _ _ _ _ _ v .own) .is)
+verdict-is : (c : tie.After-into) → verdict-of (c .into .result) ≡ into (lent c) (bytes c)
+verdict-is c = c .into .ensures ∙ into-is (lent c) (bytes c) (c .before .before .by-head .ensures)
 
-accepts : (c : tie.After-enum-told2) → (let a = c .before .before .before .before .before .before .before .args in into (now (a .minutes)) (now (a .ordinates)) (now (a .slopes)) (now (a .curvatures)) (now (a .card)) ≡ accepted)
-accepts c = sym (verdict-is (c .before .before)) ∙ ap verdict-of (c .enum-told2 .given .1)
+took : (c : tie.After-into) → verdict-of (c .into .result) ≡ accepted → Taken (lent c) (bytes c)
+took c e = taken (lent c) (bytes c) (sym (verdict-is c) ∙ e)
 
-took : (c : tie.After-enum-told2) → (let a = c .before .before .before .before .before .before .before .args in Taken (now (a .minutes)) (now (a .ordinates)) (now (a .slopes)) (now (a .curvatures)) (now (a .card)))
-took c = taken _ _ _ _ _ (accepts c)
+holds : (c : tie.After-into) → verdict-of (c .into .result) ≡ accepted → Holds (c .before .before .by-head .result .card) (bytes c)
+holds c e = held (c .before .before .by-head .ensures) (took c e .own)
+
+answered : (c : tie.After-into) {r : Checked} → r ≡ checked (verdict-of (c .into .result)) (decoded (c .before .before .by-head .result .card)) → r ≡ checked (into (lent c) (bytes c)) (card-of (bytes c))
+answered c e = checked-same _ e (verdict-is c) (λ v. holds c (verdict-is c ∙ v) .is)
 
 of-requires : tie.Need-of-requires
-of-requires c κs = full (c .before .before)
+of-requires c κs e = holds (c .before .before) e .full
 
 returns : tie.Need-returns
 returns c =
     let i = c .before .before .before in
-    let e = sym (verdict-is i) ∙ ap verdict-of (c .before .enum-told .given .1) in
-    (answered i (c .of .ensures), (over-refused _ _ e, (over-refused _ _ e, (over-refused _ _ e, over-refused _ _ e))))
+    reads-refused (lent i) (bytes i) (answered i (c .of .ensures)) (step-refused (verdict-is i) (c .before .enum-told .given .1))
 
 give-requires : tie.Need-give-requires
 give-requires c κs =
     let i = c .before .before .before .before .before .before in
-    let t = took (c .before .before .before .before) in
-    let h = i .before .before .by-head .ensures .holds (t .own) in
-    (h .full, (omega (arith, t .room, knots-held h), t .ordinates, t .slopes, t .curvatures))
+    let e = ap verdict-of (c .before .before .before .before .enum-told2 .given .1) in
+    let t = took i e in
+    (holds i e .full, (omega (arith, t .room, knots-held (holds i e)), t .ordinates, t .slopes, t .curvatures))
 
 of-requires-2 : tie.Need-of-requires-2
-of-requires-2 c κs = full (c .before .before .before .before .before .before .before .before .before .before .before .before)
+of-requires-2 c κs e = holds (c .before .before .before .before .before .before .before .before .before .before .before .before) e .full
 
 returns-2 : tie.Need-returns-2
 returns-2 c =
     let i = c .before .before .before .before .before .before .before .before .before .before .before .before .before in
-    let s = i .before .before .before .before .before .args in
-    let v = accepts (c .before .before .before .before .before .before .before .before .before .before .before) in
-    let h = i .before .before .by-head .ensures .holds (took (c .before .before .before .before .before .before .before .before .before .before .before) .own) in
-    let k = card-of (now (s .card)) in
-    let f = fronts h in
-    let g = rw (h .is) at (c .before .before .before .before .before .before .give .ensures) in (
-      answered i (c .of2 .ensures),
-      (
-        over-given (k .minutes) (now (s .minutes)) v (f .minutes) (g .0),
-        (
-          over-given (k .ordinates) (now (s .ordinates)) v (f .ordinates) (g .1 .0),
-          (over-given (k .slopes) (now (s .slopes)) v (f .slopes) (g .1 .1 .0), over-given (k .curvatures) (now (s .curvatures)) v (f .curvatures) (g .1 .1 .1)),
-        ),
-      ),
-    )
+    let e = ap verdict-of (c .before .before .before .before .before .before .before .before .before .before .before .enum-told2 .given .1) in
+    reads-given (lent i) (bytes i) (answered i (c .of2 .ensures)) (sym (verdict-is i) ∙ e) (holds i e) (c .before .before .before .before .before .before .give .ensures)
 
 pub read-spec : {M : Type 1} → statement M
 read-spec =

@@ -12,6 +12,7 @@ use Rattle.card_bytes.specs.Bytes.{quintic-head}
 use Rattle.card_bytes.specs.Held.{card-of}
 use Rattle.card_bytes.proofs.RoundTrip.{accepted-card}
 use Rattle.card.specs.Answers.{own, read-off}
+use Rattle.card.proofs.Lists.{held}
 use borrow.Author.Needs.{needs}
 use Rattle.card.proofs.reading.Statement.{statement}
 use Rattle.card.proofs.reading.Tie as tie
@@ -22,7 +23,7 @@ accepts c = sym (c .before .before .before .by-head .ensures .judged) ∙ ap ver
 read-off-requires : tie.Need-read-off-requires
 read-off-requires c κs =
     let e = accepts c in
-    let h = c .before .before .before .by-head .ensures .holds e in
+    let h = held (c .before .before .before .by-head .ensures) e in
     (h .full, ap (verdict quintic) (h .is) ∙ accepted-card quintic quintic-head _ e)
 
 returns : tie.Need-returns
@@ -35,7 +36,7 @@ returns-2 c =
     let e = accepts (c .before) in
     let s = now (c .before .before .before .before .before .before .args .card) in
     let minute = c .before .before .before .before .before .before .args .minute in
-    let h = c .before .before .before .before .by-head .ensures .holds e in
+    let h = held (c .before .before .before .before .by-head .ensures) e in
     c .read-off .ensures ∙ ap (λ k. answered (reading-order accepted k minute)) (h .is) ∙ ap (λ v. answered (reading-order v (card-of s) minute)) (sym e)
 
 pub reading-spec : {M : Type 1} → statement M

@@ -7,15 +7,17 @@ use lib.ListN.{length, replicate}
 use lib.Seq.{length-take-le}
 use denote.Ref.{now}
 use Rattle.decode.specs.Decoded.{most}
-use Rattle.lister.proofs.Listings.{few, printed-read}
+use Rattle.card.specs.Promise.{Lists}
+use Rattle.lister.proofs.Listings.{Roomy, few, printed-read}
 use borrow.Author.Needs.{needs}
 use Rattle.lister.proofs.list_card.Statement.{statement}
 use Rattle.lister.proofs.list_card.Tie as tie
 
+zeros : Roomy (record { minutes = replicate most 0; ordinates = replicate most (pos 0); slopes = replicate most (pos 0); curvatures = replicate most (pos 0) })
+zeros = record { minutes = refl; ordinates = refl; slopes = refl; curvatures = refl }
+
 fits : (c : tie.After-read) → c .read .result .knots ≤ most
-fits c =
-    few (now (c .before .before .before .before .before .before .before .args .card)) (replicate most 0) (replicate most (pos 0)) (replicate most (pos 0)) (replicate most (pos 0)) refl refl refl refl
-    (c .read .ensures .0)
+fits c = few (now (c .before .before .before .before .before .before .before .args .card)) zeros (c .read .ensures)
 
 minutes-hold : (c : tie.After-read) → c .read .result .knots ≤ length (c .read .last .1 .0)
 minutes-hold c = let f = fits c in omega arith
@@ -68,8 +70,7 @@ list-requires c κs =
 returns : tie.Need-returns
 returns c =
     let q = c .before .before .before .before .before .before .before .before .before .before .before .before .before in
-    let e = q .read .ensures in
-    rw (sym (printed-read (now (q .before .before .before .before .before .before .before .args .card)) (replicate most 0) (replicate most (pos 0)) (replicate most (pos 0)) (replicate most (pos 0)) refl refl refl refl (e .0) (e .1 .0) (e .1 .1 .0) (e .1 .1 .1 .0) (e .1 .1 .1 .1)))
+    rw (sym (printed-read (now (q .before .before .before .before .before .before .before .args .card)) zeros (q .read .ensures)))
     (c .before .before .list .ensures)
 
 pub list-card-spec : {M : Type 1} → statement M

@@ -4,8 +4,8 @@ use mathlib.Core.Path.{ap}
 use native.Mathlib.Omega.{arith}
 use Rattle.answer.specs.Judge.{verdict-of}
 use Rattle.decode.specs.Decoded.{decoded}
+use Rattle.opened.proofs.Fronts.{knots-decoded}
 use Rattle.card.specs.Answers.{checked}
-use Rattle.card.proofs.Lists.{knots-decoded}
 use borrow.Author.Needs.{needs}
 use Rattle.card.proofs.Checked.of.Statement.{statement}
 use Rattle.card.proofs.Checked.of.Tie as tie

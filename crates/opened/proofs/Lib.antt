@@ -1,0 +1,3 @@
+pub mod Shape
+pub mod Fronts
+pub mod Opening
