@@ -3,7 +3,7 @@
 ghost use mathlib.Core.Path.{_≡_};
 ghost use Prim.Native.Nat.{_≤_};
 ghost use lib.ListN.{length};
-ghost use Rattle.answer.specs.Answer.{accepted, each};
+ghost use Rattle.answer.specs.Answer.{accepted, _then_, each};
 ghost use Rattle.answer.specs.Judge.{verdict-of};
 ghost use Rattle.curve.specs.Kind.{quintic};
 ghost use Rattle.curve.specs.Steps.{stands};
