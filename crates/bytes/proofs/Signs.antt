@@ -1,5 +1,4 @@
--- Signed numbers in two's complement, stated once over the width: bounds, there and back, a number that stands in a list, and
--- what the casts of each way ask and give. They follow document 01, "Card bytes", and assume nothing.
+-- Signed numbers in two's complement, stated once over the width: bounds, a number that stands in a list, and what the casts of each way ask and give. They follow document 01, "Card bytes", and assume nothing.
 use Prim.Native.Nat.{ℕ, suc, _+_, _-_, _^_, _≤_, _<_}
 use mathlib.Core.Path.{_≡_, refl, ap, _∙_}
 use mathlib.Core.Bool.{true, false, true≢false}
@@ -15,10 +14,9 @@ use borrow.Author.Tests.{ltb-true}
 use mir.Syntax.{Width, w8, w16, w32, w64, w128}
 use mir.Val.{Fits, SFits, bits, hbits, bytes, toZ, ofZ}
 use mir.ValLaws.{half-full}
-use mir.Facts.{toZ-ofZ, toZ-pos, ofZ-toZ, fits-ofZ, sfits-toZ}
-use Rattle.bytes.specs.Numbers.{le, un, numAt, signedBytes, signedAt, Bytes}
-use Rattle.bytes.proofs.Numbers.{length-le, un-lt, un-le, le-un, numAt-lt, peel, stood}
-use Rattle.bytes.proofs.Stores.{numAt-sets}
+use mir.Facts.{toZ-ofZ, toZ-pos, ofZ-toZ, fits-ofZ}
+use Rattle.bytes.specs.Numbers.{le, numAt, signedBytes, signedAt, Bytes}
+use Rattle.bytes.proofs.Numbers.{length-le, numAt-lt, peel, stood}
 
 -- ---- bounds
 
@@ -43,30 +41,9 @@ pub length-signed : (w : Width) (z : ℤ) → length (signedBytes w z) ≡ bytes
 unfolding signedBytes
 length-signed w z = length-le (bytes w) (ofZ w z)
 
--- ---- there and back
-
-pub un-signed : (w : Width) (z : ℤ) → SFits w z → toZ w (un (signedBytes w z)) ≡ z
-unfolding signedBytes
-un-signed w z f = ap (toZ w) (un-le (bytes w) (ofZ w z) (bits-lt w z f)) ∙ toZ-ofZ f
-
-pub signed-un : (w : Width) (bs : List ℕ) → Bytes bs → length bs ≡ bytes w → signedBytes w (toZ w (un bs)) ≡ bs
-unfolding signedBytes
-signed-un w bs h l =
-    let b : un bs < 2 ^ bits w = rw (← full w, ← l) (un-lt bs h) in
-    rw (ofZ-toZ {w = w} (record { fits = b }), ← l) (le-un bs h)
-
-pub signedAt-sets : (w : Width) (d : List ℕ) (at : ℕ) (z : ℤ)
-    → SFits w z → at + bytes w ≤ length d → signedAt w (sets d at (signedBytes w z)) at ≡ z
-unfolding signedBytes signedAt
-signedAt-sets w d at z f h = ap (toZ w) (numAt-sets d at (bytes w) (ofZ w z) (some w) (bits-lt w z f) h) ∙ toZ-ofZ f
-
 module _ (s : List ℕ) (w : Width) (at next : ℕ) (e : at + bytes w ≡ next) where
   fits : Bytes s → next ≤ length s → Fits w (numAt (bytes w) s at)
   fits h l = record { fits = rw (full w) at (numAt-lt s at (bytes w) next e h l) }
-
-  pub signedAt-fits : Bytes s → next ≤ length s → SFits w (signedAt w s at)
-  unfolding signedAt
-  signedAt-fits h l = sfits-toZ (fits h l)
 
   -- the bytes at an offset are those of the signed number that is read there
   pub peel-signed : Bytes s → next ≤ length s → drop at s ≡ signedBytes w (signedAt w s at) ++ drop next s

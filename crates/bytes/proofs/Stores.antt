@@ -1,14 +1,12 @@
--- Runs of stores, as the writers of numbers leave them: two runs joined, what stands where a run was written, and a number
--- read where it was written. Assumes nothing.
-use Prim.Native.Nat.{ℕ, suc, _+_, _^_, _≤_, _<_}
-use mathlib.Core.Path.{_≡_, _∙_, ap, refl}
+-- Runs of stores, as the writers of numbers leave them: two runs joined, and what stands where a run was written.
+-- Assumes nothing.
+use Prim.Native.Nat.{ℕ, suc, _+_, _≤_}
+use mathlib.Core.Path.{_≡_, _∙_, ap}
 use mathlib.Core.List.{List, [], _∷_, _++_, append-assoc}
 use native.Mathlib.Nat.{suc-add, add-suc, add-zero}
 use native.Mathlib.Omega.{arith}
 use lib.ListN.{length, take, drop, set}
 use lib.Seq.{sets, sets-eq, drop-at, length-take-le}
-use Rattle.bytes.specs.Numbers.{le, numAt}
-use Rattle.bytes.proofs.Numbers.{length-le, stood}
 
 sets-append : (d : List ℕ) (i : ℕ) (vs ws : List ℕ) → sets (sets d i vs) (i + length vs) ws ≡ sets d i (vs ++ ws)
 sets-append d i [] ws = rw add-zero
@@ -27,10 +25,3 @@ drop-sets d at vs next e h =
     ap (drop at) (sets-eq vs d at (omega arith) ∙ append-assoc (take at d) vs (drop (at + length vs) d))
     ∙ drop-at (take at d) (vs ++ drop (at + length vs) d) at l
     ∙ ap (λ (i : ℕ). vs ++ drop i d) e
-
-pub numAt-sets : (d : List ℕ) (at k v : ℕ)
-    → 0 < k → v < 256 ^ k → at + k ≤ length d → numAt k (sets d at (le k v)) at ≡ v
-numAt-sets d at k v z b h =
-    stood (sets d at (le k v)) at k (at + k) refl v (drop (at + k) d) z b
-    (drop-sets d at (le k v) (at + k) (ap (λ (n : ℕ). at + n) (length-le k v)) h)
-    .number

@@ -5,7 +5,7 @@ use mathlib.Core.Logic.{_⊎_, ⊎-elim}
 use mathlib.Core.Bool.{false}
 use mathlib.Core.List.{List}
 use Prim.Native.Nat.{ℕ, zero, suc, _+_, _-_, _≤_, _<_, min}
-use native.Mathlib.Nat.{le-trans, le-refl, le-max-left, le-max-right, max-le, sub-self, eq-or-lt-of-le}
+use native.Mathlib.Nat.{le-trans, le-max-left, le-max-right, max-le, sub-self, eq-or-lt-of-le}
 use native.Mathlib.Numerals.{add-one}
 use native.Mathlib.Omega.{arith}
 use borrow.Author.Tests.{ltb-false, leb-false, lt-ltb}
@@ -15,7 +15,7 @@ use lib.ListN.{length, getD}
 use Rattle.whole.specs.Whole.{beyond}
 use Rattle.answer.specs.Answer.{accepted, each}
 use Rattle.answer.proofs.Steps.{first-accepts, next-accepts, refuse-accepts, each-accepts}
-use Rattle.curve.specs.Kind.{Kind, quintic}
+use Rattle.curve.specs.Kind.{Kind}
 use Rattle.curve.specs.Card.{Card, knot, knots, gap, back, on, joint}
 use Rattle.curve.specs.Steps.{stands, slope-beyond, curvature-beyond, in-range}
 use Rattle.curve.proofs.Accepted.{or-false, true-and-false}
@@ -121,10 +121,6 @@ module _ {K : Kind} {xs : List ℕ} {ys : List ℤ} (s : Stood K xs ys) where
 -- no wider gap has a wider limit
 abbrev pub Narrows : Kind → Type 0
 Narrows K = (h w : ℕ) → h ≤ w → w ≤ K .widest-gap → K .curvatures w ≤ K .curvatures h
-
-pub quintic-narrows : Narrows quintic
-unfolding quintic
-quintic-narrows h w p q = le-refl _
 
 module _ {K : Kind} {xs : List ℕ} {ys ms Ms : List ℤ} (n : Narrows K) (s : Stood K xs ys) (r : Ranged K xs ms Ms) (i : ℕ) (l : i < length xs) where
   by-gap : (j h : ℕ) → j < length xs → h ≤ wider-gap xs j → natAbs (getD Ms j (pos 0)) ≤ K .curvatures h

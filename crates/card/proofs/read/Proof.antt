@@ -8,7 +8,7 @@ use denote.Ref.{now}
 use Rattle.answer.specs.Answer.{accepted}
 use Rattle.answer.specs.Judge.{verdict-of}
 use Rattle.answer.proofs.Chain.{step-refused}
-use Rattle.decode.specs.Decoded.{decoded, Full, Holds}
+use Rattle.decode.specs.Decoded.{decoded, Holds}
 use Rattle.card_bytes.specs.Held.{card-of}
 use Rattle.opened.proofs.Fronts.{knots-held}
 use Rattle.card.specs.declared.Checked.{Checked}

@@ -7,7 +7,6 @@ use lib.ListN.{length, replicate}
 use lib.Seq.{length-take-le}
 use denote.Ref.{now}
 use Rattle.decode.specs.Decoded.{most}
-use Rattle.card.specs.Promise.{Lists}
 use Rattle.lister.proofs.Listings.{Roomy, few, printed-read}
 use borrow.Author.Needs.{needs}
 use Rattle.lister.proofs.list_card.Statement.{statement}
