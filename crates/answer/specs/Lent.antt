@@ -5,6 +5,6 @@ use lib.ListN.{length, drop}
 use Rattle.answer.specs.Answer.{refused, given, Verdict}
 
 -- vs over the front of the list
-unfoldable pub after : {A : Type 0} → Verdict → List A → List A → List A
-after (refused n p) vs list = list
-after (given u) vs list = vs ++ drop (length vs) list
+unfoldable pub lent-after : {A : Type 0} → Verdict → List A → List A → List A
+lent-after (refused n p) vs list = list
+lent-after (given u) vs list = vs ++ drop (length vs) list

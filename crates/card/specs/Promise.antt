@@ -7,7 +7,7 @@ use lib.IntN.{ℤ}
 use lib.ListN.{length}
 use denote.Ref.{RefT, now}
 use Rattle.answer.specs.Answer.{Verdict}
-use Rattle.answer.specs.Lent.{after}
+use Rattle.answer.specs.Lent.{lent-after}
 use Rattle.curve.specs.Card.{knots}
 use Rattle.curve.specs.Orders.{lists-order}
 use Rattle.card_bytes.specs.Held.{card-of}
@@ -32,7 +32,7 @@ into l s = lists-order (length (l .minutes)) (length (l .ordinates)) (length (l 
 -- the bytes; the lists at entry and at exit
 pub record Reads (s : List ℕ) (entry exit : Lists) (r : Checked) : Type 0 where
   pub answer : r ≡ checked (into entry s) (card-of s)
-  pub minutes : exit .minutes ≡ after (into entry s) (card-of s .minutes) (entry .minutes)
-  pub ordinates : exit .ordinates ≡ after (into entry s) (card-of s .ordinates) (entry .ordinates)
-  pub slopes : exit .slopes ≡ after (into entry s) (card-of s .slopes) (entry .slopes)
-  pub curvatures : exit .curvatures ≡ after (into entry s) (card-of s .curvatures) (entry .curvatures)
+  pub minutes : exit .minutes ≡ lent-after (into entry s) (card-of s .minutes) (entry .minutes)
+  pub ordinates : exit .ordinates ≡ lent-after (into entry s) (card-of s .ordinates) (entry .ordinates)
+  pub slopes : exit .slopes ≡ lent-after (into entry s) (card-of s .slopes) (entry .slopes)
+  pub curvatures : exit .curvatures ≡ lent-after (into entry s) (card-of s .curvatures) (entry .curvatures)

@@ -20,7 +20,7 @@ use Rattle.card_bytes.specs.Held.{card-of}
 use Rattle.decode.specs.Decoded.{most}
 use Rattle.card_bytes.proofs.RoundTrip.{accepted-card}
 use Rattle.card.specs.declared.Checked.{Checked}
-use Rattle.answer.specs.Lent.{after}
+use Rattle.answer.specs.Lent.{lent-after}
 use Rattle.card.specs.Answers.{own, checked}
 use Rattle.card.specs.Promise.{Lists, into, Reads}
 use Rattle.listing.specs.Text.{listing}
@@ -59,14 +59,14 @@ module _ (s : List ℕ) {l : Lists} (roomy : Roomy l) where
         go (given u) e = held s e .many
 
     pub printed-read : (let n = r .knots in listing (r .number) (r .place) (take n (exit .minutes)) (take n (exit .ordinates)) (take n (exit .slopes)) (take n (exit .curvatures)) ≡ printed s)
-    unfolding printed card-listing checked after knots
+    unfolding printed card-listing checked lent-after knots
     printed-read = rw (reads .minutes, reads .ordinates, reads .slopes, reads .curvatures, is-own, into-own) (go (own s) refl)
       where
         go : (v : Verdict) → own s ≡ v
             → (let c = card-of s in
             let r = checked v c in
-            listing (r .number) (r .place) (take (r .knots) (after v (c .minutes) (l .minutes))) (take (r .knots) (after v (c .ordinates) (l .ordinates)))
-            (take (r .knots) (after v (c .slopes) (l .slopes))) (take (r .knots) (after v (c .curvatures) (l .curvatures)))
+            listing (r .number) (r .place) (take (r .knots) (lent-after v (c .minutes) (l .minutes))) (take (r .knots) (lent-after v (c .ordinates) (l .ordinates)))
+            (take (r .knots) (lent-after v (c .slopes) (l .slopes))) (take (r .knots) (lent-after v (c .curvatures) (l .curvatures)))
             ≡ card-listing v c)
         go (refused number place) e = refl
         go (given u) e =

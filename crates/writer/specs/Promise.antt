@@ -5,7 +5,7 @@ use mathlib.Core.Path.{_≡_}
 use mathlib.Core.List.{List}
 use lib.ListN.{length}
 use Rattle.answer.specs.Answer.{refused, given, Verdict}
-use Rattle.answer.specs.Lent.{after}
+use Rattle.answer.specs.Lent.{lent-after}
 use Rattle.curve.specs.Kind.{quintic}
 use Rattle.curve.specs.Card.{Card, knots}
 use Rattle.curve.specs.Steps.{size}
@@ -21,4 +21,4 @@ written (given u) bytes = record { number = 0; place = 0; bytes = bytes }
 -- the card c in the lent lists; the buffer at entry and at exit
 pub record Writes (c : Card) (entry exit : List ℕ) (r : Written) : Type 0 where
   pub answer : r ≡ written (write-order quintic c (length entry)) (size (knots c))
-  pub buffer : exit ≡ after (write-order quintic c (length entry)) (bytes-of quintic-head c) entry
+  pub buffer : exit ≡ lent-after (write-order quintic c (length entry)) (bytes-of quintic-head c) entry
