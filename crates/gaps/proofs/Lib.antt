@@ -1,7 +1,2 @@
-pub mod Sizes
-pub mod Numerators
 pub mod Minutes
-pub mod Terms
-pub mod Comparing
-pub mod JumpIs
-pub mod OfKinds
+pub mod Kept

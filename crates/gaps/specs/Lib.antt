@@ -1,3 +1,2 @@
-pub mod Weights
-pub mod Sides
+pub mod Knots
 pub mod Limits

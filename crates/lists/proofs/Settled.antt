@@ -27,12 +27,15 @@ use Rattle.minutes.specs.Gaps.{left-gap, right-gap}
 use Rattle.knots.specs.Lent.{lent}
 use Rattle.knots.proofs.Accepted.{Stood, stood, Ranged, ranged, right-narrow, place-after, right-gap-is, curvature-by-left, curvature-by-right, curvature-before, curvature-after}
 use Rattle.gaps.specs.declared.Knot.{Knot}
-use Rattle.gaps.specs.declared.Order.{Order}
-use Rattle.gaps.specs.declared.Order.the-variants.{Third, Fourth}
-use Rattle.gaps.specs.Sides.{order-of, allowing}
-use Rattle.gaps.specs.Limits.{In-gap, Keeps, Tame, limits}
-use Rattle.gaps.proofs.JumpIs.{jumps-is}
-use Rattle.gaps.proofs.OfKinds.{quintic-readable, quintic-testable, lower, in-gap, tame, keeps, tried}
+use Rattle.jumps.specs.declared.Order.{Order}
+use Rattle.jumps.specs.declared.Order.the-variants.{Third, Fourth}
+use Rattle.jumps.specs.Sides.{order-of, allowing}
+use Rattle.gaps.specs.Limits.{In-gap, Keeps, limits}
+use Rattle.gaps.proofs.Kept.{keeps}
+use Rattle.parts.specs.Limits.{Tame}
+use Rattle.parts.proofs.OfKinds.{quintic-readable, lower, in-gap, tame}
+use Rattle.jumps.proofs.JumpIs.{jumps-is}
+use Rattle.jumps.proofs.OfKinds.{quintic-testable, tried}
 use Rattle.lists.specs.declared.Joint.{Joint}
 use Rattle.lists.specs.Lists.{Checked, In-place, numbers-at, code-of, square-of, joint-at, Tested, jumps-of}
 
@@ -61,7 +64,7 @@ module _ {xs : List ℕ} {ys ms cs : List ℤ} (k : Checked xs ys ms cs) where
     after-keeps : Keeps (limits quintic (right-gap xs i)) (numbers after)
     after-keeps = keeps-by (right-gap xs i) after (omega arith) (curvature-after (lower quintic quintic-readable) stands-there in-range-there i l)
 
-    -- what `gaps::jumps` asks
+    -- what `jumps::jumps` asks
     pub settled-knot : Tested (joint-at xs ys ms cs i)
     unfolding back
     settled-knot square s =
@@ -71,7 +74,7 @@ module _ {xs : List ℕ} {ys ms cs : List ℤ} (k : Checked xs ys ms cs) where
         (keeps-by (left-gap xs i) i l (curvature-by-left (lower quintic quintic-readable) stands-there in-range-there i l))
         right-keeps after-keeps s
 
-  -- what `gaps::Reading::between` asks
+  -- what `reading::Reading::between` asks
   module _ (i minute : ℕ) (p : In-place xs i minute) where
     abbrev h : ℕ
     h = getD xs (i + 1) 0 - getD xs i 0

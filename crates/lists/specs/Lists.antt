@@ -16,10 +16,10 @@ use Rattle.knots.specs.declared.Kind.{Kind}
 use Rattle.minutes.specs.Gaps.{left-gap, right-gap}
 use Rattle.knots.specs.Lent.{lent}
 use Rattle.gaps.specs.declared.Knot.{Knot}
-use Rattle.gaps.specs.declared.Order.{Order}
-use Rattle.gaps.specs.declared.Order.the-variants.{Third, Fourth}
-use Rattle.gaps.specs.Sides.{jump-of, leeways, past}
-use Rattle.gaps.specs.Limits.{Tried}
+use Rattle.jumps.specs.declared.Order.{Order}
+use Rattle.jumps.specs.declared.Order.the-variants.{Third, Fourth}
+use Rattle.jumps.specs.Sides.{jump-of, leeways, past}
+use Rattle.jumps.specs.Limits.{Tried}
 use Rattle.lists.specs.declared.Joint.{Joint}
 use Rattle.lists.specs.declared.CardReading.{CardReading}
 

@@ -12,7 +12,7 @@ ghost use Rattle.curve.specs.Steps.{stands, smooth};
 ghost use Rattle.curve.specs.Orders.{numbers-sound, sound, reading-order};
 ghost use Rattle.knots.specs.Kinds.{kind-of};
 ghost use Rattle.knots.specs.Lent.{lent};
-ghost use Rattle.gaps.specs.Sides.{order-of};
+ghost use Rattle.jumps.specs.Sides.{order-of};
 ghost use Rattle.lists.specs.Lists.{Long, Checked, In-place, numbers-at, code-of, square-of, joint-at, Tested, jumps-of, spell-of, answered};
 
 // ---- 10
@@ -47,13 +47,13 @@ fn code_at(left: u16, right: u16, n: usize, i: usize) -> u16
 }
 
 // "At a free end both; with code 2 the fourth only; with code 1 nothing".
-fn asks(kind: knots::Kind, order: gaps::Order, code: u16) -> bool
+fn asks(kind: knots::Kind, order: jumps::Order, code: u16) -> bool
     ensures { λ r. ⌜ r ≡ kind-of kind .asks (end code) (order-of order) ⌝ }
 {
     let fourth = kind.fourth;
     match order {
-        gaps::Order::Third => code == 0,
-        gaps::Order::Fourth => {
+        jumps::Order::Third => code == 0,
+        jumps::Order::Fourth => {
             if code == 0 {
                 return fourth;
             }
@@ -66,13 +66,13 @@ fn asks(kind: knots::Kind, order: gaps::Order, code: u16) -> bool
 }
 
 // The first number of a side's allowance.
-fn square(kind: knots::Kind, order: gaps::Order) -> i64
+fn square(kind: knots::Kind, order: jumps::Order) -> i64
     ensures { λ r. ⌜ (r ≡ pos (square-of kind order)) × (square-of kind order < 2 ^ 8) ⌝ }
 {
     let squares = kind.squares;
     match order {
-        gaps::Order::Third => squares as i64,
-        gaps::Order::Fourth => 20,
+        jumps::Order::Third => squares as i64,
+        jumps::Order::Fourth => 20,
     }
 }
 
@@ -106,12 +106,12 @@ fn joint_at(xs: &[u16], ys: &[i16], ms: &[i32], cs: &[i32], i: usize) -> Joint
 }
 
 // Whether a derivative jumps at a knot where its code asks for it.
-fn jumps_at(kind: knots::Kind, order: gaps::Order, code: u16, joint: Joint) -> bool
+fn jumps_at(kind: knots::Kind, order: jumps::Order, code: u16, joint: Joint) -> bool
     requires { ⌜ Tested joint ⌝ }
     ensures { λ r. ⌜ r ≡ (kind-of kind .asks (end code) (order-of order) && jumps-of kind order joint) ⌝ }
 {
     if asks(kind, order, code) {
-        return gaps::jumps(
+        return jumps::jumps(
             order,
             square(kind, order),
             joint.left,
@@ -141,10 +141,10 @@ fn rough_at(
 {
     let code = code_at(left, right, xs.len(), i);
     let joint = joint_at(xs, ys, ms, cs, i);
-    if jumps_at(kind, gaps::Order::Third, code, joint) {
+    if jumps_at(kind, jumps::Order::Third, code, joint) {
         return 10;
     }
-    if jumps_at(kind, gaps::Order::Fourth, code, joint) {
+    if jumps_at(kind, jumps::Order::Fourth, code, joint) {
         return 10;
     }
     0
@@ -255,7 +255,7 @@ fn read_gap(xs: &[u16], ys: &[i16], ms: &[i32], cs: &[i32], i: usize, minute: u1
     let t = (minute - from) as i64;
     let a = knot_at(ys, ms, cs, i);
     let b = knot_at(ys, ms, cs, i + 1);
-    let r = gaps::Reading::between(h, t, a, b);
+    let r = reading::Reading::between(h, t, a, b);
     CardReading {
         number: 0,
         place: 0,

@@ -39,8 +39,15 @@ use Rattle.knots.proofs.stand.Reads as stand
 use Rattle.knots.proofs.in_range.Reads as in-range
 use Rattle.minutes.proofs.outside.Reads as outside
 use Rattle.minutes.proofs.gap_of.Reads as gap-of
-use Rattle.gaps.proofs.Reading.between.Reads as reading-between
-use Rattle.gaps.proofs.jumps.Reads as jumps
+use Rattle.gaps.proofs.Knot.mirrored.Reads as mirrored
+use Rattle.weights.proofs.Weights.of.Reads as weights-of
+use Rattle.parts.proofs.Parts.of.Reads as parts-of
+use Rattle.parts.proofs.numerator.Reads as numerator
+use Rattle.parts.proofs.denominator.Reads as denominator
+use Rattle.reading.proofs.Reading.between.Reads as reading-between
+use Rattle.jumps.proofs.jump.Reads as jump
+use Rattle.jumps.proofs.allowance.Reads as allowance
+use Rattle.jumps.proofs.jumps.Reads as jumps
 use Rattle.lists.proofs.numbers_sound.Reads as numbers-sound
 use Rattle.lists.proofs.sound.Reads as sound
 use Rattle.lists.proofs.CardReading.refused.Reads as reading-refused
@@ -191,8 +198,11 @@ minutes = (equation _ _, equation _ _, equation _ _, equation _ _, equation _ _,
 pub knots : Once kind-quintic.Post × Once same-lengths.Post × Once counted.Post × Once codes.Post × Once sized.Post × Once room.Post × Once stand.Post × Once in-range.Post
 knots = (equation _ _, judgement _, judgement _, judgement _, judgement _, judgement _, judgement _, λ κs a x y s t p q. one-judgement (p [] 0 0) (q [] 0 0))
 
-pub gaps : Once reading-between.Post × Once jumps.Post
-gaps = (equation _ _, equation _ _)
+pub one-gap : Once mirrored.Post × Once weights-of.Post × Once parts-of.Post × Once numerator.Post × Once denominator.Post × Once reading-between.Post
+one-gap = (equation _ _, equation _ _, equation _ _, equation _ _, equation _ _, equation _ _)
+
+pub two-gaps : Once jump.Post × Once allowance.Post × Once jumps.Post
+two-gaps = (equation _ _, equation _ _, equation _ _)
 
 pub lists : Once numbers-sound.Post × Once sound.Post × Once reading-refused.Post × Once read-at.Post
 lists = (judgement _, judgement _, equation _ _, λ κs a x y s t p q. one-outcome (p 0 0) (q 0 0))

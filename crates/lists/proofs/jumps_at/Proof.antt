@@ -1,4 +1,4 @@
--- `jumps_at` meets its contract: it hands `gaps::jumps` what it holds.
+-- `jumps_at` meets its contract: it hands `jumps::jumps` what it holds.
 -- Assumes nothing.
 use mathlib.Core.Path.{_≡_, sym, _∙_, ap}
 use mathlib.Core.Bool.{_&&_}
@@ -9,14 +9,14 @@ use mir.Syntax.{w64}
 use mir.Val.{toZ, ofZ}
 use mir.Facts.{toZ-ofZ}
 use Rattle.gaps.specs.declared.Knot.{Knot}
-use Rattle.gaps.specs.declared.Order.{Order}
-use Rattle.gaps.specs.Sides.{jump-of, leeways, past}
-use Rattle.gaps.specs.Limits.{Tried}
+use Rattle.jumps.specs.declared.Order.{Order}
+use Rattle.jumps.specs.Sides.{jump-of, leeways, past}
+use Rattle.jumps.specs.Limits.{Tried}
 use Rattle.lists.specs.Lists.{square-of, jumps-of}
 use Rattle.lists.proofs.jumps_at.Statement.{statement}
 use Rattle.lists.proofs.jumps_at.Tie as tie
 
--- the numbers that `gaps::jumps` is handed are these
+-- the numbers that `jumps::jumps` is handed are these
 record Handed (s q h s′ q′ h′ : ℤ) : Type 0 where
   square-is : s ≡ s′
   left-is : q ≡ q′

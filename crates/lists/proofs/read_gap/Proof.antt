@@ -13,9 +13,11 @@ use Rattle.curve.specs.Card.{knot, gap}
 use Rattle.curve.specs.Reading.{reads}
 use Rattle.knots.specs.Lent.{lent}
 use Rattle.gaps.specs.declared.Knot.{Knot}
-use Rattle.gaps.specs.Weights.{placed, shown}
-use Rattle.gaps.specs.Limits.{In-gap, Tame}
-use Rattle.gaps.proofs.Numerators.{reads-by-gap}
+use Rattle.gaps.specs.Knots.{placed}
+use Rattle.gaps.specs.Limits.{In-gap}
+use Rattle.parts.specs.Limits.{Tame}
+use Rattle.reading.specs.Shown.{shown}
+use Rattle.reading.proofs.Rounds.{reads-by-gap}
 use Rattle.lists.specs.Lists.{numbers-at, spell-of}
 use Rattle.lists.proofs.Settled.{settled-minute, settled-gap}
 use Rattle.lists.proofs.read_gap.Statement.{statement}
@@ -36,7 +38,7 @@ numbers c = numbers-at (c .args .ys .now) (c .args .ms .now) (c .args .cs .now)
 small : (c : tie.After-shared-slice-known3) → h (c .before .before .before) < 2 ^ 63
 small c = omega (arith, c .shared-slice-known3 .given (c .before .before .before .args .i + 1))
 
--- the numbers that `gaps::Reading::between` is handed are these
+-- the numbers that `reading::Reading::between` is handed are these
 record Handed (h t h′ t′ : ℤ) (a b a′ b′ : Knot) : Type 0 where
   h-is : h ≡ h′
   t-is : t ≡ t′

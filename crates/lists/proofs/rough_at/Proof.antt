@@ -10,9 +10,9 @@ use Rattle.curve.specs.Jump.{jumps}
 use Rattle.curve.specs.Steps.{smooth}
 use Rattle.knots.specs.Kinds.{kind-of}
 use Rattle.knots.specs.Lent.{lent}
-use Rattle.gaps.specs.declared.Order.{Order}
-use Rattle.gaps.specs.declared.Order.the-variants.{Third, Fourth}
-use Rattle.gaps.specs.Sides.{order-of}
+use Rattle.jumps.specs.declared.Order.{Order}
+use Rattle.jumps.specs.declared.Order.the-variants.{Third, Fourth}
+use Rattle.jumps.specs.Sides.{order-of}
 use Rattle.lists.specs.Lists.{Tested, jumps-of}
 use Rattle.lists.proofs.Settled.{settled-knot, asked-jumps}
 use Rattle.lists.proofs.rough_at.Statement.{statement}

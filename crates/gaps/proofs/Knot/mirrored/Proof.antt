@@ -6,7 +6,7 @@ use Rattle.whole.proofs.Order.{abs-neg}
 use Rattle.whole.proofs.Linear.{abs-fits}
 use Rattle.whole.proofs.Solve.{:neg, v0 as y, v1 as m, v2 as k}
 use Rattle.whole.proofs.Machine.{Src, held, Ok, does, gave}
-use Rattle.gaps.specs.Weights.{mirror}
+use Rattle.gaps.specs.Knots.{mirror}
 use Rattle.gaps.proofs.Knot.mirrored.Statement.{statement}
 use Rattle.gaps.proofs.Knot.mirrored.Tie as tie
 

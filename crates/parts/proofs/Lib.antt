@@ -1,0 +1,4 @@
+pub mod Terms
+pub mod Sizes
+pub mod Numerators
+pub mod OfKinds
