@@ -1,6 +1,6 @@
 -- What the arithmetic of two gaps asks of its numbers: that they keep within limits which a computed test passes. A kind of card passes where its limits do on
 -- each pair of gaps that it has. Assumes nothing.
-use Prim.Native.Nat.{ℕ, _+_, _*_, _≤_, _<_, _^_}
+use Prim.Native.Nat.{ℕ, _+_, _*_, _≤_, _^_}
 use mathlib.Core.Bool.{Bool, _&&_}
 use lib.Dec.{T, ltb, leb}
 use lib.IntN.{ℤ, pos, natAbs}

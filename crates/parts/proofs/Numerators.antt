@@ -8,9 +8,9 @@ use Prim.Native.Nat.{ℕ, _+_, _-_, _*_, _≤_, _<_, _^_}
 use native.Mathlib.Nat.{sub-zero, one-le-pow}
 use native.Mathlib.Omega.{arith}
 use lib.Dec.{T, ltb, leb, ltb→lt, leb→le}
-use lib.IntN.{ℤ, pos, negsuc, natAbs, _+ℤ_, _-ℤ_, _*ℤ_}
+use lib.IntN.{ℤ, pos, negsuc, natAbs, _+ℤ_, _-ℤ_}
 use lib.Signed.{_≤ℤ_}
-use Rattle.whole.specs.Whole.{_·_, nearest}
+use Rattle.whole.specs.Whole.{nearest}
 use Rattle.whole.proofs.Order.{linear, abs-add, abs-mul, abs-neg, abs-is, abs-le}
 use Rattle.whole.proofs.Solve.{E, _:+_, _:-_, _:*_, :neg, #, ring, both-l, both-r}
 use Rattle.whole.proofs.Rounding.{nearest-most}

@@ -5,13 +5,13 @@ use mathlib.Core.List.{List, [], _∷_}
 use Prim.Native.Nat.{_+_, _<_, _^_}
 use native.Mathlib.Omega.{arith}
 use borrow.Author.Needs.{needs}
-use lib.IntN.{natAbs, _+ℤ_}
+use lib.IntN.{_+ℤ_}
 use mir.Syntax.{w64}
 use Rattle.whole.proofs.Order.{linear, abs-add}
 use Rattle.whole.proofs.Linear.{abs-fits}
 use Rattle.whole.proofs.Solve.{_:+_, v0, v1}
-use Rattle.whole.proofs.Machine.{Src, held, In, Ok, does, gave, gives}
-use Rattle.gaps.proofs.Minutes.{gap-tops, minute-in}
+use Rattle.whole.proofs.Machine.{Src, held, Ok, does, gave, gives}
+use Rattle.gaps.proofs.Minutes.{minute-in}
 use Rattle.parts.specs.Parts.{parts, sum-of, size}
 use Rattle.parts.proofs.Numerators.{numerator-is, parts-fit, sum-size}
 use Rattle.parts.proofs.numerator.Statement.{statement}
