@@ -14,7 +14,7 @@ pub(crate) fn signed(number: i32) {
     if number < 0 {
         io::write_all(1, b"-");
     }
-    io::print_decimal(1, listing::magnitude(number) as u64);
+    io::print_decimal(1, decimal::magnitude(number as i64));
 }
 
 // A number behind its word.

@@ -3,7 +3,7 @@ use sheet::Sheet;
 ghost use mathlib.Core.Path.{_≡_};
 ghost use Prim.Native.Nat.{_+_, _*_, _^_, _≤_, _<_};
 ghost use lib.ListN.{length};
-ghost use Rattle.listing.specs.Put.{Put};
+ghost use Rattle.decimal.specs.Put.{Put};
 ghost use Rattle.fitter.specs.Printed.{fit-listing, printed};
 
 fn list_fit(

@@ -2,7 +2,7 @@
 use knots::Kind;
 ghost use Prim.Native.Nat.{_≤_};
 ghost use lib.ListN.{length};
-ghost use Rattle.listing.specs.Put.{Put};
+ghost use Rattle.decimal.specs.Put.{Put};
 ghost use Rattle.lister.specs.Printed.{printed};
 
 fn list_card(card: &[u8], text: &mut [u8]) -> usize

@@ -1,9 +1,10 @@
--- Document 01's listing of Table 3, whole, and the line of a refusal; numbers at the ends of their types. Computed from the definitions; assumes nothing.
+-- Document 01's listing of Table 3, whole, and the line of a refusal. Computed from the definitions; assumes nothing.
 use Prim.Native.Nat.{ℕ}
 use mathlib.Core.Path.{_≡_, refl}
 use mathlib.Core.List.{List, [], _∷_, _++_}
 use lib.IntN.{ℤ, pos, negsuc}
-use Rattle.listing.specs.Text.{spelled, digits, decimal, signed, field, knot-line, ok-line, refused-line, lines, line-of, listing}
+use Rattle.decimal.specs.Decimal.{spelled, digits, signed, field}
+use Rattle.listing.specs.Text.{knot-line, ok-line, refused-line, lines, line-of, listing}
 
 abbrev minutes : List ℕ
 minutes = 0 ∷ 8 ∷ 16 ∷ 24 ∷ 32 ∷ []
@@ -25,6 +26,5 @@ printed =
 pub table-3 :
     (listing 0 0 minutes ordinates slopes curvatures ≡ printed)
     × (listing 10 2 minutes ordinates slopes curvatures ≡ spelled "refused 10 at 2\n") × (listing 1 0 [] [] [] [] ≡ spelled "refused 1 at 0\n")
-    × (decimal 4294967295 ≡ spelled "4294967295") × (signed (negsuc 2147483647) ≡ spelled "-2147483648")
 unfolding spelled digits signed field knot-line ok-line refused-line lines line-of listing
-table-3 = (refl, refl, refl, refl, refl)
+table-3 = (refl, refl, refl)

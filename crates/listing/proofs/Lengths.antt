@@ -1,30 +1,32 @@
--- How long a listing is at most, by the number of its knots; and what it is, by its number of refusal.
+-- How long a line is at most, by the widths of its numbers; and what a listing is, by its number of refusal.
 -- Assumes nothing.
-use Prim.Native.Nat.{ℕ, zero, suc, _+_, _*_, _≤_, _<_}
+use Prim.Native.Nat.{ℕ, _+_, _^_, _≤_, _<_}
 use mathlib.Core.Path.{_≡_}
-use mathlib.Core.Bool.{Bool, true, false, cond}
 use mathlib.Core.List.{List, [], _∷_, _++_}
 use native.Mathlib.Omega.{arith}
-use native.Mathlib.Decide.{ℕ-discrete}
-use lib.Dec.{eqb}
-use lib.IntN.{ℤ, pos, negsuc}
+use lib.IntN.{ℤ, pos, negsuc, natAbs}
 use lib.ListN.{length, length-append}
 use borrow.Author.Tests.{eq-eqb, ne-eqb}
-use Rattle.listing.specs.Text.{spelled, decimal, space, line-feed, signed, field, knot-line, worded, ok-line, refused-line, lines, line-of, listing}
-use Rattle.listing.proofs.Digits.{length-digits}
+use mir.Syntax.{w32}
+use mir.Val.{SFits}
+use Rattle.decimal.specs.Decimal.{spelled, decimal, field, worded}
+use Rattle.decimal.proofs.Lengths.{length-decimal, length-field}
+use Rattle.listing.specs.Text.{space, line-feed, knot-line, ok-line, refused-line, lines, line-of, listing}
 
-length-signed : (z : ℤ) → length (signed z) ≤ 11
-unfolding signed
-length-signed (pos n) = omega (arith, length-digits 10 n)
-length-signed (negsuc n) = omega (arith, length-digits 10 (suc n))
+-- a number of 32 bits has at most ten digits
+ten-digits : (n : ℕ) → n < 2 ^ 32 → length (decimal n) ≤ 10
+ten-digits n h = length-decimal 10 (omega arith) n (omega arith)
 
-length-field : (z : ℤ) (parting : ℕ) → length (field z parting) ≤ 12
-unfolding field
-length-field z parting = omega (arith, length-append (signed z) (parting ∷ []), length-signed z)
+within : (z : ℤ) → SFits w32 z → natAbs z < 10 ^ 10
+within (pos n) f = omega (arith, f .sfits)
+within (negsuc n) f = omega (arith, f .sfits)
 
-pub length-knot-line : (x : ℕ) (y m M : ℤ) → length (knot-line x y m M) ≤ 48
+twelve : (z : ℤ) (parting : ℕ) → natAbs z < 10 ^ 10 → length (field z parting) ≤ 12
+twelve = length-field 10 (omega arith)
+
+pub length-knot-line : (x : ℕ) (y m M : ℤ) → x < 2 ^ 32 → SFits w32 y → SFits w32 m → SFits w32 M → length (knot-line x y m M) ≤ 48
 unfolding knot-line
-length-knot-line x y m M =
+length-knot-line x y m M a b c d =
     let X = field (pos x) space in
     let Y = field y space in
     let S = field m space in
@@ -33,40 +35,25 @@ length-knot-line x y m M =
       length-append (X ++ Y ++ S) (field M line-feed),
       length-append (X ++ Y) S,
       length-append X Y,
-      length-field (pos x) space,
-      length-field y space,
-      length-field m space,
-      length-field M line-feed,
+      twelve (pos x) space (omega arith),
+      twelve y space (within y b),
+      twelve m space (within m c),
+      twelve M line-feed (within M d),
     )
 
-length-lines : (line : ℕ → List ℕ) → ((i : ℕ) → length (line i) ≤ 48) → (n : ℕ) → length (lines line n) ≤ 48 * n
-unfolding lines
-length-lines line h zero = omega arith
-length-lines line h (suc n) = omega (arith, length-append (lines line n) (line n), length-lines line h n, h n)
-
--- room for all lines is room for one more than the first i
-pub room-for-line : (line : ℕ → List ℕ) (i n : ℕ) → i < n → length (lines line i ++ line i) ≤ length (lines line n)
-unfolding lines
-room-for-line line i zero h = absurd (omega arith)
-room-for-line line i (suc n) h =
-    elim (ℕ-discrete i n) [ yes e ↦ rw e (omega arith) | no e ↦ longer (room-for-line line i n (omega arith)) ]
-  where
-    longer : {k : ℕ} → k ≤ length (lines line n) → k ≤ length (lines line n ++ line n)
-    longer l = omega (arith, length-append (lines line n) (line n))
-
-length-ok-line : (n : ℕ) → length (ok-line n) ≤ 14
+pub length-ok-line : (n : ℕ) → n < 2 ^ 32 → length (ok-line n) ≤ 14
 unfolding ok-line spelled
-length-ok-line n = omega (arith, length-append (decimal n) (line-feed ∷ []), length-digits 10 n)
+length-ok-line n h = omega (arith, length-append (decimal n) (line-feed ∷ []), ten-digits n h)
 
-pub length-refused-line : (number place : ℕ) → length (refused-line number place) ≤ 33
+pub length-refused-line : (number place : ℕ) → number < 2 ^ 32 → place < 2 ^ 32 → length (refused-line number place) ≤ 33
 unfolding refused-line spelled
-length-refused-line number place =
+length-refused-line number place h k =
     omega (
       arith,
       length-append (worded "refused " number ++ worded " at " place) (line-feed ∷ []),
       length-append (worded "refused " number) (worded " at " place),
-      length-digits 10 number,
-      length-digits 10 place,
+      ten-digits number h,
+      ten-digits place k,
     )
 
 module _ (number place : ℕ) (xs : List ℕ) (ys ms Ms : List ℤ) where
@@ -77,22 +64,3 @@ module _ (number place : ℕ) (xs : List ℕ) (ys ms Ms : List ℤ) where
   pub accepted-listing : number ≡ 0 → listing number place xs ys ms Ms ≡ lines (line-of xs ys ms Ms) (length xs) ++ ok-line (length xs)
   unfolding listing
   accepted-listing h = rw (eq-eqb number 0 h)
-
-  pub length-accepted : length (lines (line-of xs ys ms Ms) (length xs) ++ ok-line (length xs)) ≤ 48 * length xs + 14
-  unfolding line-of
-  length-accepted =
-      omega (
-        arith,
-        length-append (lines (line-of xs ys ms Ms) (length xs)) (ok-line (length xs)),
-        length-lines (line-of xs ys ms Ms) (λ i. length-knot-line _ _ _ _) (length xs),
-        length-ok-line (length xs),
-      )
-
-  -- 64 knots need at most 3,105 bytes
-  pub length-listing : length (listing number place xs ys ms Ms) ≤ 48 * length xs + 33
-  unfolding listing
-  length-listing = go (eqb number 0)
-    where
-      go : (b : Bool) → length (cond b (lines (line-of xs ys ms Ms) (length xs) ++ ok-line (length xs)) (refused-line number place)) ≤ 48 * length xs + 33
-      go true = omega (arith, length-accepted)
-      go false = omega (arith, length-refused-line number place)

@@ -1,34 +1,13 @@
 -- What both programs print, as bytes: document 01, "Two programs". "Both print a line per knot, then `ok n`; or one line `refused NUMBER at PLACE`."
 -- Assumes nothing.
-use Prim.Native.Nat.{ℕ, zero, suc, _+_, _/_, _%_}
-use Prim.Native.String.{String, [] as empty, _∷_ as _before_}
-use Prim.Native.Char.{code}
+use Prim.Native.Nat.{ℕ, zero, suc, _*_, _≤_}
 use mathlib.Core.Bool.{cond}
 use mathlib.Core.List.{List, [], _∷_, _++_}
-use lib.Dec.{ltb, eqb}
-use lib.IntN.{ℤ, pos, negsuc}
+use lib.Dec.{eqb}
+use lib.IntN.{ℤ, pos}
 use lib.ListN.{length, getD}
-
--- the bytes of fixed words
-unfoldable pub spelled : String → List ℕ
-spelled empty = []
-spelled (letter before rest) = code letter ∷ spelled rest
-
--- the digits of n, the highest first and none of them a zero in front, of which there are at most k
-unfoldable pub digits : ℕ → ℕ → List ℕ
-digits zero n = []
-digits (suc k) n = cond (ltb n 10) [] (digits k (n / 10)) ++ ((48 + n % 10) ∷ [])
-
--- each number of 32 bits has at most 10 digits
-abbrev pub decimal : ℕ → List ℕ
-decimal n = digits 10 n
-
-abbrev pub minus : ℕ
-minus = 45
-
-unfoldable pub signed : ℤ → List ℕ
-signed (pos n) = decimal n
-signed (negsuc n) = minus ∷ decimal (suc n)
+use Rattle.decimal.specs.Decimal.{field, worded}
+use Rattle.decimal.specs.Put.{Put}
 
 abbrev pub space : ℕ
 space = 32
@@ -37,17 +16,9 @@ space = 32
 abbrev pub line-feed : ℕ
 line-feed = 10
 
--- a number, and the byte that parts it from the next one or ends the line
-unfoldable pub field : ℤ → ℕ → List ℕ
-field z parting = signed z ++ (parting ∷ [])
-
 -- "x y m M"
 unfoldable pub knot-line : ℕ → ℤ → ℤ → ℤ → List ℕ
 knot-line x y m M = field (pos x) space ++ field y space ++ field m space ++ field M line-feed
-
--- fixed words, and a number behind them
-abbrev pub worded : String → ℕ → List ℕ
-worded words n = spelled words ++ decimal n
 
 unfoldable pub ok-line : ℕ → List ℕ
 ok-line n = worded "ok " n ++ (line-feed ∷ [])
@@ -67,3 +38,10 @@ line-of xs ys ms Ms i = knot-line (getD xs i 0) (getD ys i (pos 0)) (getD ms i (
 unfoldable pub listing : ℕ → ℕ → List ℕ → List ℤ → List ℤ → List ℤ → List ℕ
 listing number place xs ys ms Ms =
     cond (eqb number 0) (lines (line-of xs ys ms Ms) (length xs) ++ ok-line (length xs)) (refused-line number place)
+
+-- ---- inside
+
+-- n lines at the front of a buffer, each of at most 48 bytes
+pub record Lines (line : ℕ → List ℕ) (n : ℕ) (entry exit : List ℕ) (next : ℕ) : Type 0 where
+  pub put : Put (lines line n) entry exit 0 next
+  pub short : next ≤ 48 * n

@@ -90,9 +90,15 @@ use Rattle.fit.proofs.Outcome.{one-fit}
 use Rattle.fit.proofs.fit_between.Reads as fit-between
 use Rattle.fit.proofs.fit_codes.Reads as fit-codes
 use Rattle.fit.proofs.fit.Reads as fit
-use Rattle.listing.specs.Put.{Put}
-use Rattle.listing.proofs.Puts.{one-put}
-use Rattle.listing.proofs.magnitude.Reads as magnitude
+use Rattle.decimal.specs.Put.{Put}
+use Rattle.decimal.proofs.Puts.{one-put}
+use Rattle.decimal.proofs.magnitude.Reads as magnitude
+use Rattle.decimal.proofs.put_byte.Reads as put-byte
+use Rattle.decimal.proofs.put_words.Reads as put-words
+use Rattle.decimal.proofs.put_decimal.Reads as put-decimal
+use Rattle.decimal.proofs.put_signed.Reads as put-signed
+use Rattle.decimal.proofs.put_field.Reads as put-field
+use Rattle.decimal.proofs.put_worded.Reads as put-worded
 use Rattle.listing.proofs.refused_line.Reads as refused-line
 use Rattle.listing.proofs.list.Reads as list
 use Rattle.sheet.proofs.Sheet.read.Reads as sheet-read
@@ -262,10 +268,31 @@ fit-free = fitting _ _ _ _ _
 
 -- ---- what the programs read and print
 
-pub sheet : Once sheet-read.Post × Once magnitude.Post
-sheet = (equation _ _, equation _ _)
+pub sheet : Once sheet-read.Post
+sheet = equation _ _
+
+pub sizes : Once magnitude.Post
+sizes = equation _ _
 
 -- the text is the first parameter
+pub byte-put : Once put-byte.Post × Lent put-byte.Post (λ s. now (s .0))
+byte-put = putting _ _ _ _
+
+pub words-put : Once put-words.Post × Lent put-words.Post (λ s. now (s .0))
+words-put = putting _ _ _ _
+
+pub decimal-put : Once put-decimal.Post × Lent put-decimal.Post (λ s. now (s .0))
+decimal-put = putting _ _ _ _
+
+pub signed-put : Once put-signed.Post × Lent put-signed.Post (λ s. now (s .0))
+signed-put = putting _ _ _ _
+
+pub field-put : Once put-field.Post × Lent put-field.Post (λ s. now (s .0))
+field-put = putting _ _ _ _
+
+pub worded-put : Once put-worded.Post × Lent put-worded.Post (λ s. now (s .0))
+worded-put = putting _ _ _ _
+
 pub refusal-listed : Once refused-line.Post × Lent refused-line.Post (λ s. now (s .0))
 refusal-listed = putting _ _ _ _
 

@@ -27,7 +27,7 @@ refused-line-requires : tie.Need-refused-line-requires
 refused-line-requires c κs =
     let r = c .before .before .before .read .result in
     let p = c .before .before .before .before .before .before .pre in
-    omega (arith, length-refused-line (r .number) (r .place))
+    omega (arith, length-refused-line (r .number) (r .place) (search needs) (search needs))
 
 returns : tie.Need-returns
 returns c =

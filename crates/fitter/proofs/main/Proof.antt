@@ -2,7 +2,7 @@
 use native.Mathlib.Omega.{arith}
 use lib.Seq.{length-take-le}
 use mathlib.Core.Path.{sym}
-use Rattle.listing.proofs.Puts.{same-room}
+use Rattle.decimal.proofs.Puts.{same-room}
 use borrow.Author.Needs.{needs}
 use Rattle.fitter.proofs.main.Statement.{statement}
 use Rattle.fitter.proofs.main.Tie as tie

@@ -4,12 +4,14 @@ use mathlib.Core.List.{_++_}
 use native.Mathlib.Omega.{arith}
 use lib.IntN.{pos}
 use lib.ListN.{length}
-use mir.Facts.{toZ-ofZ, sfits-widen}
+use mir.Syntax.{w16, w32, w64}
+use mir.Facts.{toZ-pos}
 use denote.Ref.{now}
-use Rattle.listing.specs.Put.{Put}
-use Rattle.listing.specs.Text.{space, line-feed, field, knot-line}
-use Rattle.listing.proofs.Puts.{put-then, room-before, room-behind}
-use Rattle.listing.proofs.Minus.{passed, minute, ordinate}
+use Rattle.decimal.specs.Put.{Put}
+use Rattle.decimal.specs.Decimal.{field}
+use Rattle.listing.specs.Text.{space, line-feed, knot-line}
+use Rattle.decimal.proofs.Puts.{put-then, room-before, room-behind}
+use Rattle.decimal.proofs.Widths.{wide, widened}
 use borrow.Author.Needs.{needs}
 use Rattle.listing.proofs.knot_line.Statement.{statement}
 use Rattle.listing.proofs.knot_line.Tie as tie
@@ -19,19 +21,19 @@ by-x : (c : tie.After-put-field)
     Put (field (pos (a .x)) space) (now (a .text)) (c .put-field .last .0) (a .at) (c .put-field .result))
 by-x c =
     let a = c .before .before .before in
-    rw (minute (a .args .x) (omega (arith, a .fits .x))) at (c .put-field .ensures)
+    rw (toZ-pos w64 {n = a .args .x} (omega (arith, a .fits .x))) at (c .put-field .ensures)
 
 by-y : (c : tie.After-put-field2)
     → (let a = c .before .before .before .before .before .before .before .args in
     Put (field (pos (a .x)) space ++ field (a .y) space) (now (a .text)) (c .put-field2 .last .0) (a .at) (c .put-field2 .result))
 by-y c =
-    put-then (by-x (c .before .before .before .before)) (rw (ordinate _ (c .before .before .before .before .before .before .before .fits .y)) at (c .put-field2 .ensures))
+    put-then (by-x (c .before .before .before .before)) (rw (widened w16 tt (c .before .before .before .before .before .before .before .fits .y)) at (c .put-field2 .ensures))
 
 by-m : (c : tie.After-put-field3)
     → (let a = c .before .before .before .before .before .before .before .before .before .before .before .args in
     Put (field (pos (a .x)) space ++ field (a .y) space ++ field (a .m) space) (now (a .text)) (c .put-field3 .last .0) (a .at) (c .put-field3 .result))
 by-m c =
-    put-then (by-y (c .before .before .before .before)) (rw (passed _ (c .before .before .before .before .before .before .before .before .before .before .before .fits .m)) at (c .put-field3 .ensures))
+    put-then (by-y (c .before .before .before .before)) (rw (widened w32 tt (c .before .before .before .before .before .before .before .before .before .before .before .fits .m)) at (c .put-field3 .ensures))
 
 room-before-c : (c : tie.Start)
     → (let a = c .args in
@@ -52,38 +54,42 @@ put-field-requires : tie.Need-put-field-requires
 put-field-requires c κs =
     let a = c .before .before in
     let x = a .args .x in
-    rw (minute x (omega (arith, a .fits .x)))
+    rw (toZ-pos w64 {n = x} (omega (arith, a .fits .x)))
     (room-before (field (pos x) space) (field (a .args .y) space) (a .args .at) (room-before-m a))
 
 cast-put-field-2 : tie.Need-cast-put-field-2
-cast-put-field-2 c =
-    let f = c .before .before .before .before .before .before .fits .y in
-    rw (toZ-ofZ f) (sfits-widen tt f)
+cast-put-field-2 c = wide w16 tt (c .before .before .before .before .before .before .fits .y)
 
 put-field-requires-2 : tie.Need-put-field-requires-2
 put-field-requires-2 c κs =
     let q = c .before .before .before in
     let a = q .before .before .before in
-    rw (ordinate _ (a .fits .y)) (room-behind (by-x q) (field (a .args .y) space) (room-before-m a))
+    rw (widened w16 tt (a .fits .y)) (room-behind (by-x q) (field (a .args .y) space) (room-before-m a))
+
+cast-put-field-3 : tie.Need-cast-put-field-3
+cast-put-field-3 c = wide w32 tt (c .before .before .before .before .before .before .before .before .before .before .fits .m)
 
 put-field-requires-3 : tie.Need-put-field-requires-3
 put-field-requires-3 c κs =
     let q = c .before .before .before in
     let a = q .before .before .before .before .before .before .before in
-    rw (passed _ (a .fits .m)) (room-behind (by-y q) (field (a .args .m) space) (room-before-c a))
+    rw (widened w32 tt (a .fits .m)) (room-behind (by-y q) (field (a .args .m) space) (room-before-c a))
+
+cast-put-field-4 : tie.Need-cast-put-field-4
+cast-put-field-4 c = wide w32 tt (c .before .before .before .before .before .before .before .before .before .before .before .before .before .before .fits .c)
 
 put-field-requires-4 : tie.Need-put-field-requires-4
 unfolding knot-line
 put-field-requires-4 c κs =
     let q = c .before .before .before in
     let a = q .before .before .before .before .before .before .before .before .before .before .before in
-    rw (passed _ (a .fits .c)) (room-behind (by-m q) (field (a .args .c) line-feed) (a .pre))
+    rw (widened w32 tt (a .fits .c)) (room-behind (by-m q) (field (a .args .c) line-feed) (a .pre))
 
 returns : tie.Need-returns
 unfolding knot-line
 returns c =
     let q = c .before .before .before .before .before .before in
-    put-then (by-m q) (rw (passed _ (q .before .before .before .before .before .before .before .before .before .before .before .fits .c)) at (c .before .before .put-field4 .ensures))
+    put-then (by-m q) (rw (widened w32 tt (q .before .before .before .before .before .before .before .before .before .before .before .fits .c)) at (c .before .before .put-field4 .ensures))
 
 pub knot-line-spec : {M : Type 1} → statement M
 knot-line-spec =
@@ -93,7 +99,9 @@ knot-line-spec =
     put-field-requires
     cast-put-field-2
     put-field-requires-2
+    cast-put-field-3
     put-field-requires-3
+    cast-put-field-4
     put-field-requires-4
     (λ c. search needs)
     returns)

@@ -9,24 +9,23 @@ use mir.Syntax.{w16, w32}
 use mir.Val.{toZ, ofZ}
 use denote.Ref.{now}
 use Rattle.bytes.proofs.Signs.{passed}
-use Rattle.listing.specs.Put.{Put}
-use Rattle.listing.specs.Text.{knot-line, lines, line-of}
-use Rattle.listing.proofs.Puts.{put-none, put-then, same-room, room-behind}
-use Rattle.listing.proofs.Lengths.{room-for-line}
+use Rattle.listing.specs.Text.{knot-line, lines, line-of, Lines}
+use Rattle.decimal.proofs.Puts.{put-none, put-then, same-room}
+use Rattle.listing.proofs.Lengths.{length-knot-line}
 use borrow.Author.Needs.{needs}
 use Rattle.listing.proofs.knot_lines.Statement.{statement}
 use Rattle.listing.proofs.knot_lines.Tie as tie
 
 abbrev Inv-loop : tie.InvT-loop
 Inv-loop text₀ minutes ordinates slopes curvatures next₀ i₀ text next i =
-    (i ≤ length minutes) × Put (lines (line-of minutes ordinates slopes curvatures) i) text₀ text 0 next
+    (i ≤ length minutes) × Lines (line-of minutes ordinates slopes curvatures) i text₀ text next
 
 abbrev μ-loop : tie.MeasureT-loop
 μ-loop text₀ minutes ordinates slopes curvatures next₀ i₀ text next i = length minutes - i
 
 loop-holds : tie.Need-loop-holds Inv-loop μ-loop
 unfolding lines
-loop-holds c = (omega arith, put-none (omega arith))
+loop-holds c = (omega arith, record { put = put-none (omega arith); short = omega arith })
 
 -- the numbers of the lists, as a call passes them on
 line-is : (c : tie.After-knot-line-arg4 Inv-loop μ-loop)
@@ -43,21 +42,34 @@ line-is c =
     let M = passed w32 (getD (now (a .curvatures)) i (pos 0)) (c .knot-line-arg4 .given) in
     rw (y, m, M)
 
+line-short : (c : tie.After-knot-line-arg4 Inv-loop μ-loop)
+    → (let a = c .before .before .before .before .before .before .before .before .before .args in
+    length (line-of (now (a .minutes)) (now (a .ordinates)) (now (a .slopes)) (now (a .curvatures)) (c .before .before .before .before .before .before .loop .i)) ≤ 48)
+unfolding line-of
+line-short c =
+    let x = c .before .before .before .shared-slice-known2 .given (c .before .before .before .before .before .before .loop .i) in
+    let y = c .before .before .knot-line-arg2 .given in
+    let m = c .before .knot-line-arg3 .given in
+    let M = c .knot-line-arg4 .given in
+    length-knot-line _ _ _ _ (omega arith) (record { sfits = omega arith }) (record { sfits = m }) (record { sfits = M })
+
 knot-line-requires : tie.Need-knot-line-requires Inv-loop μ-loop
 knot-line-requires c κs =
     let a = c .before .before .before .before .before .before .before .before .before in
     let l = c .before .before .before .before .before .before .loop in
-    let line = line-of (now (a .args .minutes)) (now (a .args .ordinates)) (now (a .args .slopes)) (now (a .args .curvatures)) in
-    let r = room-for-line line (l .i) (length (now (a .args .minutes))) (omega arith) in
-    rw (line-is c) (room-behind (l .inv .1) (line (l .i)) (omega (arith, a .pre .1)))
+    let i = l .inv .1 in
+    rw (line-is c) (omega (arith, line-short c, i .short, same-room (i .put), a .pre .1))
 
 loop-again : tie.Need-loop-again Inv-loop μ-loop
 unfolding lines
 loop-again c =
-    (omega arith, rw add-one (put-then (c .before .before .before .before .before .before .before .before .before .loop .inv .1) (rw (line-is (c .before .before .before)) at (c .before .before .knot-line .ensures))))
+    let k = c .before .before .before in
+    let i = k .before .before .before .before .before .before .loop .inv .1 in
+    let p = rw (line-is k) at (c .before .before .knot-line .ensures) in
+    (omega arith, record { put = rw add-one (put-then (i .put) p); short = omega (arith, line-short k, i .short, p .behind) })
 
 same-length : tie.Need-same-length Inv-loop μ-loop
-same-length c = same-room (c .before .loop .inv .1)
+same-length c = same-room (c .before .loop .inv .1 .put)
 
 returns : tie.Need-returns Inv-loop μ-loop
 returns c =
