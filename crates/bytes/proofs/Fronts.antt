@@ -5,9 +5,7 @@ use mathlib.Core.List.{List, [], _∷_}
 use native.Mathlib.Omega.{arith}
 use lib.ListN.{take, drop}
 use lib.Seq.{take-take}
-use mir.Syntax.{Width}
-use mir.Val.{bytes, toZ}
-use Rattle.bytes.specs.Numbers.{un, numAt, signedAt}
+use Rattle.bytes.specs.Numbers.{un, numAt}
 
 within : (at k n : ℕ) (s : List ℕ) → at + k ≤ n → take k (drop at (take n s)) ≡ take k (drop at s)
 within zero k n s h = take-take k n s (omega arith)
@@ -19,7 +17,3 @@ module _ (n : ℕ) (s : List ℕ) where
   pub number-in-front : (k at : ℕ) → at + k ≤ n → numAt k (take n s) at ≡ numAt k s at
   unfolding numAt
   number-in-front k at h = ap un (within at k n s h)
-
-  pub signed-in-front : (w : Width) (at : ℕ) → at + bytes w ≤ n → signedAt w (take n s) at ≡ signedAt w s at
-  unfolding signedAt
-  signed-in-front w at h = ap (toZ w) (number-in-front (bytes w) at h)

@@ -1,61 +1,63 @@
 // The fitter: knots as records on standard input, the listing of their fit on standard output. Document 01, "Two programs".
+use sheet::Intake;
 use sheet::Sheet;
-ghost use mathlib.Core.Path.{_≡_};
-ghost use Prim.Native.Nat.{_+_, _*_, _^_, _≤_, _<_};
+ghost use Prim.Native.Nat.{_≤_};
 ghost use lib.ListN.{length};
-ghost use Rattle.decimal.specs.Put.{Put};
-ghost use Rattle.fitter.specs.Printed.{fit-listing, printed};
+ghost use Rattle.sheet.specs.Sheet.{Of-an-input};
+ghost use Rattle.sheet.specs.Step.{Near};
+ghost use Rattle.fitter.specs.Turned.{Turned};
 
-fn list_fit(
-    minutes: &[u16],
-    ordinates: &[i16],
-    slopes: &mut [i32],
-    curvatures: &mut [i32],
-    text: &mut [u8],
-) -> usize
-    requires { ⌜ (length (now ordinates) ≡ length (now minutes)) × (length (now slopes) ≡ length (now minutes)) × (length (now curvatures) ≡ length (now minutes)) ⌝ }
-    requires { ⌜ (length (now minutes) < 2 ^ 32) × (48 * length (now minutes) + 33 ≤ length (now text)) ⌝ }
-    ensures { λ r. ⌜ Put (fit-listing (now (minutes .entry)) (now (ordinates .entry)) (now (slopes .entry)) (now (curvatures .entry))) (now (text .entry)) (now (text .exit)) 0 r ⌝ }
-{
-    let fitted = fit::fit(minutes, ordinates, slopes, curvatures);
-    listing::list(
-        fitted.number,
-        fitted.place,
-        minutes,
-        ordinates,
-        slopes,
-        curvatures,
-        text,
-    )
+// What one more record makes of an intake, and whether another is looked at.
+struct Turn {
+    more: bool,
+    intake: Intake,
 }
 
-fn list_records(records: &[u8], text: &mut [u8]) -> usize
-    requires { ⌜ 4096 ≤ length (now text) ⌝ }
-    ensures { λ r. ⌜ Put (printed (now (records .entry))) (now (text .entry)) (now (text .exit)) 0 r ⌝ }
+// One turn of the loop of `Sheet::read`, with what standard input gives for its pieces. No contract can say what that is.
+fn take_record(intake: Intake, space: &mut [u8]) -> Turn
+    requires { ⌜ Near intake × (65535 ≤ length (now space)) ⌝ }
+    ensures { λ r. ⌜ Turned intake r ⌝ }
 {
-    let sheet = Sheet::read(records);
-    if sheet.number != 0 {
-        return listing::refused_line(text, 0, sheet.number, sheet.place);
+    let mut head = [0u8; 4];
+    let got = io::read_full(0, &mut head);
+    if got == 0 {
+        return Turn {
+            more: false,
+            intake,
+        };
     }
-    let n = sheet.knots;
-    let minutes = sheet.minutes;
-    let ordinates = sheet.ordinates;
-    let mut slopes = [0i32; Sheet::MOST];
-    let mut curvatures = [0i32; Sheet::MOST];
-    list_fit(
-        &minutes[..n],
-        &ordinates[..n],
-        &mut slopes[..n],
-        &mut curvatures[..n],
-        text,
-    )
+    let long = sheet::asked(&head[..got]) as usize;
+    let had = io::read_full(0, &mut space[..long]);
+    let next = intake.step(&head[..got], &space[..had]);
+    let done = next.done();
+    Turn {
+        more: !done,
+        intake: next,
+    }
 }
 
-// 65 records of 8 bytes are 520, and no more are looked at, so a buffer of 4,096 bytes holds all that counts.
+// At most 65 records, each with at most 65,535 bytes behind its head: one buffer holds one of them.
+fn read_input() -> Sheet
+    ensures { λ r. ⌜ Of-an-input r ⌝ }
+{
+    let mut space = io::large_buffer();
+    let mut intake = Intake::new();
+    let mut left: usize = Sheet::MOST;
+    while 0 < left {
+        let turn = take_record(intake, &mut space);
+        let next = turn.intake;
+        intake = next;
+        if turn.more {
+            left -= 1;
+        } else {
+            left = 0;
+        }
+    }
+    intake.close()
+}
+
 fn main() {
-    let mut records = io::buffer();
-    let n = io::read_full(0, &mut records);
     let mut text = io::buffer();
-    let length = list_records(&records[..n], &mut text);
+    let length = fit_listing::list_sheet(read_input(), &mut text);
     io::write_all(1, &text[..length]);
 }

@@ -101,7 +101,13 @@ use Rattle.decimal.proofs.put_field.Reads as put-field
 use Rattle.decimal.proofs.put_worded.Reads as put-worded
 use Rattle.listing.proofs.refused_line.Reads as refused-line
 use Rattle.listing.proofs.list.Reads as list
+use Rattle.sheet.proofs.asked.Reads as asked
+use Rattle.sheet.proofs.Intake.new.Reads as intake-new
+use Rattle.sheet.proofs.Intake.done.Reads as intake-done
+use Rattle.sheet.proofs.Intake.step.Reads as intake-step
+use Rattle.sheet.proofs.Intake.close.Reads as intake-close
 use Rattle.sheet.proofs.Sheet.read.Reads as sheet-read
+use Rattle.fit_listing.proofs.list_sheet.Reads as list-sheet
 use Rattle.kaihveto.proofs.kaihveto_mean.Reads as c-mean
 use Rattle.kaihveto.proofs.kaihveto_fit.Reads as c-fit
 use Rattle.kaihveto.proofs.kaihveto_fit_ends.Reads as c-fit-ends
@@ -268,8 +274,8 @@ fit-free = fitting _ _ _ _ _
 
 -- ---- what the programs read and print
 
-pub sheet : Once sheet-read.Post
-sheet = equation _ _
+pub sheet : Once asked.Post × Once intake-new.Post × Once intake-done.Post × Once intake-step.Post × Once intake-close.Post × Once sheet-read.Post
+sheet = (equation _ _, equation _ _, equation _ _, (λ κs a x y s t p q. one-outcome (p .0) (q .0)), equation _ _, equation _ _)
 
 pub sizes : Once magnitude.Post
 sizes = equation _ _
@@ -295,6 +301,10 @@ worded-put = putting _ _ _ _
 
 pub refusal-listed : Once refused-line.Post × Lent refused-line.Post (λ s. now (s .0))
 refusal-listed = putting _ _ _ _
+
+-- here the second
+pub sheet-listed : Once list-sheet.Post × Lent list-sheet.Post (λ s. now (s .1 .0))
+sheet-listed = putting _ _ _ _
 
 -- and here the seventh
 pub listed : Once list.Post × Lent list.Post (λ s. now (s .1 .1 .1 .1 .1 .1 .0))

@@ -1,3 +1,6 @@
-pub mod Counting
+pub mod Proper
+pub mod Steps
+pub mod Folding
+pub mod Cutting
+pub mod Gluing
 pub mod Examples
-pub mod Fronts

@@ -1,10 +1,10 @@
--- `fitter::list_fit` meets its contract: the listing of the fit's answer. Assumes nothing.
+-- `fit_listing::list_fit` meets its contract: the listing of the fit's answer. Assumes nothing.
 use denote.Ref.{now}
-use Rattle.fitter.specs.Printed.{fit-listing}
-use Rattle.fitter.proofs.Listings.{listed-fit}
+use Rattle.fit_listing.specs.Printed.{fit-listing}
+use Rattle.fit_listing.proofs.Listings.{listed-fit}
 use borrow.Author.Needs.{needs}
-use Rattle.fitter.proofs.list_fit.Statement.{statement}
-use Rattle.fitter.proofs.list_fit.Tie as tie
+use Rattle.fit_listing.proofs.list_fit.Statement.{statement}
+use Rattle.fit_listing.proofs.list_fit.Tie as tie
 
 returns : tie.Need-returns
 unfolding fit-listing

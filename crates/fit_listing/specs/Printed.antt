@@ -9,6 +9,7 @@ use lib.ListN.{length, take, replicate}
 use Rattle.answer.specs.Answer.{Answer, number, place}
 use Rattle.curve.specs.Card.{Card}
 use Rattle.listing.specs.Text.{refused-line, listing}
+use Rattle.sheet.specs.declared.Sheet.{Sheet}
 use Rattle.sheet.specs.Sheet.{most, sheet}
 use Rattle.fit.specs.Fit.{fit}
 use Rattle.fit.specs.Promise.{slopes-after, curvatures-after}
@@ -23,8 +24,10 @@ fit-listing xs ys ms Ms = listing-by (fit xs ys (length ms) (length Ms)) xs ys m
 abbrev zeros : ℕ → List ℤ
 zeros n = replicate n (pos 0)
 
-unfoldable pub printed : List ℕ → List ℕ
-printed s =
-    let a = sheet s in
+unfoldable pub listed : Sheet → List ℕ
+listed a =
     let n = a .knots in
     cond (eqb (a .number) 0) (fit-listing (take n (a .minutes)) (take n (a .ordinates)) (take n (zeros most)) (take n (zeros most))) (refused-line (a .number) (a .place))
+
+abbrev pub printed : List ℕ → List ℕ
+printed s = listed (sheet s)

@@ -1,4 +1,4 @@
--- What the fitter prints, by what the reading of its records and the fit answer.
+-- What the fitter prints, by the sheet and by what the fit answers.
 -- Assumes nothing.
 use Prim.Native.Nat.{ℕ}
 use mathlib.Core.Path.{_≡_}
@@ -10,22 +10,23 @@ use Rattle.answer.specs.Answer.{Answer}
 use Rattle.curve.specs.Card.{Card}
 use Rattle.listing.specs.Text.{refused-line, listing}
 use Rattle.sheet.specs.declared.Sheet.{Sheet}
-use Rattle.sheet.specs.Sheet.{most, sheet}
+use Rattle.sheet.specs.Sheet.{most}
 use Rattle.fit.specs.declared.Fitted.{Fitted}
 use Rattle.fit.specs.Promise.{Fits}
-use Rattle.fitter.specs.Printed.{listing-by, fit-listing, printed}
+use Rattle.fit_listing.specs.Printed.{listing-by, fit-listing, listed}
 
 pub listed-fit : {f : Answer Card} {ms Ms ms′ Ms′ : List ℤ} {r : Fitted} (xs : List ℕ) (ys : List ℤ)
     → Fits f ms Ms ms′ Ms′ r → listing (r .number) (r .place) xs ys ms′ Ms′ ≡ listing-by f xs ys ms Ms
 unfolding listing-by
 listed-fit xs ys h = rw (h .answer, h .slopes, h .curvatures)
 
-module _ (s : List ℕ) {r : Sheet} (e : r ≡ sheet s) where
-  pub printed-refused : (r .number ≡ 0 → ⊥) → printed s ≡ refused-line (r .number) (r .place)
-  unfolding printed
-  printed-refused h = rw (← e, ne-eqb (r .number) 0 h)
+module _ (a : Sheet) where
+  pub listed-refused : (a .number ≡ 0 → ⊥) → listed a ≡ refused-line (a .number) (a .place)
+  unfolding listed
+  listed-refused h = rw (ne-eqb (a .number) 0 h)
 
-  pub printed-fit : r .number ≡ 0
-      → printed s ≡ fit-listing (take (r .knots) (r .minutes)) (take (r .knots) (r .ordinates)) (take (r .knots) (replicate most (pos 0))) (take (r .knots) (replicate most (pos 0)))
-  unfolding printed
-  printed-fit h = rw (← e, eq-eqb (r .number) 0 h)
+  pub listed-knots : a .number ≡ 0
+      → (let n = a .knots in
+      listed a ≡ fit-listing (take n (a .minutes)) (take n (a .ordinates)) (take n (replicate most (pos 0))) (take n (replicate most (pos 0))))
+  unfolding listed
+  listed-knots h = rw (eq-eqb (a .number) 0 h)
