@@ -1,7 +1,7 @@
 /* kaihveto.h: the curves of a drying hall's set points, for C and C++ on x86-64.
 
-   Link with libkaihveto.a, which `rt staticlib kaihveto` writes; beside it only the C library is needed. The library keeps
-   nothing between calls and asks the system for nothing; a fit of 64 knots needs about 8 KiB of stack.
+   Link with libkaihveto.a, which `rt staticlib kaihveto` writes; beside it only the C library's memcpy and memset are needed.
+   The library keeps nothing between calls and asks the system for nothing.
 
    Words. A knot has a minute (0 to 65,535) and an ordinate (whole hundredths, -20,000 to 20,000). A card has 3 to 64 knots
    with gaps of 1 to 60 minutes, and adds to each knot a slope and a curvature in card units: 1/4096 hundredth per minute, and
@@ -18,7 +18,30 @@
 
    Answers. Every answer starts with a number and a place. Number 0 is acceptance, with place 0. Any other number is a
    refusal: the fields behind number and place are then 0, and nothing has been written to any list. Knots and bytes count
-   from 0. Every input is allowed: what is not sound is refused, and a call always returns. */
+   from 0. Every input is allowed: what is not sound is refused, and a call always returns.
+
+   Calls. The functions follow the System V calling convention for x86-64, which C and C++ compilers for Linux use.
+
+   Threads and interrupts. There is no state, not one variable, so any number of calls may run at once, in any threads, as long
+   as nobody touches a list while another call may write to it, or writes to a list while another call reads it. A signal
+   handler may call every function. So may an interrupt handler that has the stack for it and has saved the SSE registers:
+   compiled code moves bytes through them. Interrupts that come in on the stack of the code that they interrupt have to leave
+   the 128 bytes below its stack pointer alone, as the convention says: these functions use them.
+
+   Floating point. kaihveto_fit and kaihveto_fit_ends compute in SSE binary64. Their answers hold in the mode in which a process
+   starts: rounding to nearest, no flush-to-zero, no denormals-are-zero, exceptions masked. A caller that has changed MXCSR
+   restores it for the call; a program that is linked with -ffast-math may start in another mode. The two may set the flags of
+   MXCSR. The other five functions have no floating-point operation and answer alike in every mode.
+
+   Stack. Bytes that a call needs at 64 knots, measured and rounded up (docs/FIGURES.md, "Stack"); no proof bounds them. The
+   first call may need more, where the loader binds memcpy and memset in it.
+
+     kaihveto_mean      128        kaihveto_check    3,072        kaihveto_fit       8,192
+     kaihveto_write     512        kaihveto_read     4,096        kaihveto_fit_ends  8,192
+                                   kaihveto_reading  4,096
+
+   Time. A reading tests the whole card every time and only then looks up the minute: some 1 to 2 microseconds at 64 knots
+   (docs/FIGURES.md, "Speed"). A controller that reads once a minute needs to keep nothing but the card's bytes. */
 
 #ifndef KAIHVETO_H
 #define KAIHVETO_H
@@ -30,14 +53,34 @@
 extern "C" {
 #endif
 
+/* The version of this header and of the archive that is built beside it. MAJOR rises where a program that was right before
+   has to be looked at or compiled anew: a function or an answer's fields change, a number changes its meaning, or the same
+   input gets another answer. MINOR rises where something is added and all else stays. The archive itself does not carry it:
+   take both from one state of the sources. */
+#define KAIHVETO_VERSION_MAJOR 1
+#define KAIHVETO_VERSION_MINOR 0
+
 /* The end codes. */
 #define KAIHVETO_FREE 0
 #define KAIHVETO_BOTH_GIVEN 1
 #define KAIHVETO_CURVATURE_GIVEN 2
 
-/* The most knots of a card, and the bytes of a card of n knots. */
+/* The fewest and the most knots of a card, its widest gap in minutes, and the bytes of a card of n knots. */
+#define KAIHVETO_FEWEST_KNOTS 3
 #define KAIHVETO_MOST_KNOTS 64
+#define KAIHVETO_WIDEST_GAP 60
 #define KAIHVETO_CARD_BYTES(n) (14 + 16 * (n))
+
+/* What these numbers may be, from minus the limit to the limit: an ordinate, in hundredths; a slope and a curvature, in card
+   units; a number given for an end, in hundredths per minute or per minute squared. */
+#define KAIHVETO_ORDINATE_LIMIT 20000
+#define KAIHVETO_CARD_NUMBER_LIMIT 1048576
+#define KAIHVETO_GIVEN_NUMBER_LIMIT 256
+
+/* The most bytes of a log, the largest good byte, and the sensor's fault code, which is skipped. */
+#define KAIHVETO_LOG_MOST_BYTES 60
+#define KAIHVETO_LOG_LARGEST_GOOD 200
+#define KAIHVETO_LOG_FAULT 255
 
 /* The numbers of refusal. The place is 0 where none is named. */
 enum kaihveto_number {
@@ -136,7 +179,7 @@ kaihveto_card_answer kaihveto_read(const uint8_t *card, size_t card_length,
                                    int32_t *curvatures, size_t curvatures_length);
 
 /* Reads the curve off a card's bytes at a minute: value in hundredths, slope and curvature in card units, each the exact
-   curve's rounded to nearest, ties to even.
+   curve's rounded to nearest, ties to even. The whole card is tested each time.
    Refusals, in this order: those of kaihveto_check, 11. Nothing is written. */
 typedef struct {
     uint32_t number;
