@@ -1,273 +1,154 @@
-// One function for each thing that is asked of the library, which prints its line.
+// One function for each thing that is asked of the library: what is lent to it, and a line with all of its answer and of what it was lent to write.
 use crate::print;
-use decode::Card;
+ghost use Prim.Native.Nat.{_+_, _≤_};
+ghost use lib.ListN.{length};
 
-// Three knots of a card.
-pub struct Three {
-    pub minutes: [u16; 3],
-    pub ordinates: [i16; 3],
-    pub slopes: [i32; 3],
-    pub curvatures: [i32; 3],
+fn mean(minute: u16, log: &[u8]) {
+    let mean = log::mean_of(minute, log);
+    print::verdict(b"mean", mean.number, mean.place);
+    print::counted(b"; minute", mean.minute);
+    print::named(b"; ordinate", mean.ordinate);
+    print::counted(b"; good", mean.good);
 }
 
-// Two codes.
-pub struct Codes {
-    pub left: u16,
-    pub right: u16,
+fn reading(minute: u16, card: &[u8]) {
+    let reading = card::reading(card, minute);
+    print::verdict(b"reading", reading.number, reading.place);
+    print::named(b"; value", reading.value);
+    print::named(b"; slope", reading.slope);
+    print::named(b"; curvature", reading.curvature);
 }
 
-// A code with the numbers that stand beside it.
-pub struct End {
-    pub code: u16,
-    pub slope: f64,
-    pub curvature: f64,
+fn checked(word: &[u8], checked: card::Checked) {
+    print::verdict(word, checked.number, checked.place);
+    print::counted(b"; knots", checked.knots);
+    print::counted(b"; left", checked.left);
+    print::counted(b"; right", checked.right);
 }
 
-impl Codes {
-    pub(crate) fn free() -> Codes {
-        Codes { left: 0, right: 0 }
-    }
+fn check(card: &[u8]) {
+    checked(b"check", card::check(card));
 }
 
-impl End {
-    pub(crate) fn free() -> End {
-        End {
-            code: 0,
-            slope: 0.0,
-            curvature: 0.0,
-        }
-    }
+fn read(
+    card: &[u8],
+    minutes: &mut [u16],
+    ordinates: &mut [i16],
+    slopes: &mut [i32],
+    curvatures: &mut [i32],
+) {
+    checked(
+        b"read",
+        card::read(card, minutes, ordinates, slopes, curvatures),
+    );
+    print::minutes(minutes);
+    print::ordinates(ordinates);
+    print::numbers(b"; slopes", slopes);
+    print::numbers(b"; curvatures", curvatures);
 }
 
-impl Three {
-    // Ordinates all alike.
-    pub(crate) fn level(minutes: [u16; 3], ordinate: i16) -> Three {
-        Three {
-            minutes,
-            ordinates: [ordinate; 3],
-            slopes: [0; 3],
-            curvatures: [0; 3],
-        }
-    }
-
-    // Ordinates of 0.
-    pub(crate) fn flat(minutes: [u16; 3], slopes: [i32; 3], curvatures: [i32; 3]) -> Three {
-        Three {
-            minutes,
-            ordinates: [0; 3],
-            slopes,
-            curvatures,
-        }
-    }
-
-    // P7's card, and the same from minute 5 and below 0.
-    pub(crate) fn rising() -> Three {
-        Three {
-            minutes: [0, 2, 4],
-            ordinates: [0, 1, 2],
-            slopes: [2048; 3],
-            curvatures: [0; 3],
-        }
-    }
-
-    pub(crate) fn from_5() -> Three {
-        Three {
-            minutes: [5, 7, 9],
-            ordinates: [0, 1, 2],
-            slopes: [2048; 3],
-            curvatures: [0; 3],
-        }
-    }
-
-    pub(crate) fn falling() -> Three {
-        Three {
-            minutes: [0, 2, 4],
-            ordinates: [0, -1, -2],
-            slopes: [-2048; 3],
-            curvatures: [0; 3],
-        }
-    }
-
-    // Its bytes, free at both ends.
-    pub(crate) fn bytes(self) -> [u8; 62] {
-        let minutes = self.minutes;
-        let ordinates = self.ordinates;
-        let slopes = self.slopes;
-        let curvatures = self.curvatures;
-        let mut bytes = [0u8; 62];
-        put(
-            &minutes,
-            &ordinates,
-            &slopes,
-            &curvatures,
-            Codes::free(),
-            &mut bytes,
-        );
-        bytes
-    }
-}
-
-// The bytes of a card, whatever it holds, where the lists are alike and there is room.
-fn put(
+fn write(
+    left: u16,
+    right: u16,
     minutes: &[u16],
     ordinates: &[i16],
     slopes: &[i32],
     curvatures: &[i32],
-    codes: Codes,
-    bytes: &mut [u8],
+    buffer: &mut [u8],
 ) {
-    let n = minutes.len();
-    if n <= 65 && ordinates.len() == n && slopes.len() == n && curvatures.len() == n {
-        if 14 + 16 * n <= bytes.len() {
-            encode::put_card(
-                Card::QUINTIC,
-                minutes,
-                ordinates,
-                slopes,
-                curvatures,
-                codes.left,
-                codes.right,
-                bytes,
-            );
-        }
-    }
+    let written = writer::write(minutes, ordinates, slopes, curvatures, left, right, buffer);
+    print::verdict(b"write", written.number, written.place);
+    print::counted(b"; bytes", written.bytes);
+    print::buffer(buffer);
 }
 
-// Lists to the writer and, as bytes whatever they hold, to the card test; lent as many bytes as the card has.
-pub(crate) fn card_of(
-    label: &[u8],
-    minutes: &[u16],
-    ordinates: &[i16],
-    slopes: &[i32],
-    curvatures: &[i32],
-    codes: Codes,
-    bytes: &mut [u8],
-) {
-    let written = writer::write(
-        minutes,
-        ordinates,
-        slopes,
-        curvatures,
-        codes.left,
-        codes.right,
-        bytes,
-    );
-    put(minutes, ordinates, slopes, curvatures, codes, bytes);
-    let checked = card::check(bytes);
-    print::label(label);
-    print::judged(b"write ", written.number, written.place);
-    print::judged(b", check ", checked.number, checked.place);
-    print::end();
+fn fitted(fitted: fit::Fitted, slopes: &[i32], curvatures: &[i32]) {
+    print::verdict(b"fit", fitted.number, fitted.place);
+    print::numbers(b"; slopes", slopes);
+    print::numbers(b"; curvatures", curvatures);
 }
 
-pub(crate) fn card(label: &[u8], three: Three, codes: Codes) {
-    let minutes = three.minutes;
-    let ordinates = three.ordinates;
-    let slopes = three.slopes;
-    let curvatures = three.curvatures;
-    let mut bytes = [0u8; 62];
-    card_of(
-        label,
-        &minutes,
-        &ordinates,
-        &slopes,
-        &curvatures,
-        codes,
-        &mut bytes,
-    );
+fn fit(minutes: &[u16], ordinates: &[i16], slopes: &mut [i32], curvatures: &mut [i32]) {
+    let answer = fit::fit(minutes, ordinates, slopes, curvatures);
+    fitted(answer, slopes, curvatures);
 }
 
-// Free at both ends.
-pub(crate) fn free_card(label: &[u8], three: Three) {
-    card(label, three, Codes::free());
+// A whole number of eight bytes, exact up to 2^53.
+fn wide(list: &[u8], at: usize) -> f64
+    requires { ⌜ at + 8 ≤ length (now list) ⌝ }
+{
+    let low = bytes::read_u16(list, at) as f64;
+    let middle = bytes::read_u16(list, at + 2) as f64;
+    let high = bytes::read_i32(list, at + 4) as f64;
+    high * 4294967296.0 + (middle * 65536.0 + low)
 }
 
-fn fitted(label: &[u8], number: u32, place: u32) {
-    print::label(label);
-    print::judged(b"fit ", number, place);
-    print::end();
+fn quotient(list: &[u8], at: usize) -> f64
+    requires { ⌜ at + 16 ≤ length (now list) ⌝ }
+{
+    wide(list, at) / wide(list, at + 8)
 }
 
-pub(crate) fn fit_between(
-    label: &[u8],
-    minutes: [u16; 3],
-    ordinates: [i16; 3],
-    left: End,
-    right: End,
-) {
-    let mut slopes = [0i32; 3];
-    let mut curvatures = [0i32; 3];
-    let answer = fit::fit_codes(
-        &minutes,
-        &ordinates,
-        &mut slopes,
-        &mut curvatures,
-        left.code,
-        left.slope,
-        left.curvature,
-        right.code,
-        right.slope,
-        right.curvature,
-    );
-    fitted(label, answer.number, answer.place);
-}
-
-pub(crate) fn fit_into(
-    label: &[u8],
+// The ends' numbers come as quotients.
+fn fit_codes(
+    left: u16,
+    right: u16,
     minutes: &[u16],
     ordinates: &[i16],
     slopes: &mut [i32],
     curvatures: &mut [i32],
+    ends: &[u8],
 ) {
-    let answer = fit::fit(minutes, ordinates, slopes, curvatures);
-    fitted(label, answer.number, answer.place);
-}
-
-pub(crate) fn fit_five(label: &[u8], minutes: [u16; 5], ordinates: [i16; 5]) {
-    let mut slopes = [0i32; 5];
-    let mut curvatures = [0i32; 5];
-    fit_into(label, &minutes, &ordinates, &mut slopes, &mut curvatures);
-}
-
-// The same knots to a card and to a fit.
-pub(crate) fn both(label: &[u8], three: Three) {
-    free_card(label, three);
-    let minutes = three.minutes;
-    let ordinates = three.ordinates;
-    let mut slopes = [0i32; 3];
-    let mut curvatures = [0i32; 3];
-    fit_into(label, &minutes, &ordinates, &mut slopes, &mut curvatures);
-}
-
-pub(crate) fn mean(label: &[u8], minute: u16, log: &[u8]) {
-    let mean = log::mean_of(minute, log);
-    print::label(label);
-    if mean.number == 0 {
-        print::counted(b"minute ", mean.minute);
-        print::named(b", ordinate ", mean.ordinate);
-        print::counted(b", good ", mean.good);
-    } else {
-        print::verdict(mean.number, mean.place);
+    if ends.len() < 64 {
+        return;
     }
-    print::end();
+    let answer = fit::fit_codes(
+        minutes,
+        ordinates,
+        slopes,
+        curvatures,
+        left,
+        quotient(ends, 0),
+        quotient(ends, 16),
+        right,
+        quotient(ends, 32),
+        quotient(ends, 48),
+    );
+    fitted(answer, slopes, curvatures);
 }
 
-pub(crate) fn reading(label: &[u8], card: &[u8], minute: u16) {
-    let reading = card::reading(card, minute);
-    print::label(label);
-    if reading.number == 0 {
-        print::named(b"value ", reading.value);
-        print::named(b", slope ", reading.slope);
-        print::named(b", curvature ", reading.curvature);
-    } else {
-        print::verdict(reading.number, reading.place);
+// By the kind of the record.
+pub(crate) fn ask(
+    kind: u16,
+    left: u16,
+    right: u16,
+    minutes: &mut [u16],
+    ordinates: &mut [i16],
+    slopes: &mut [i32],
+    curvatures: &mut [i32],
+    bytes: &mut [u8],
+) {
+    match kind {
+        0 => print::text(bytes),
+        1 => mean(left, bytes),
+        2 => reading(left, bytes),
+        3 => check(bytes),
+        4 => {
+            fit(minutes, ordinates, slopes, curvatures);
+            return;
+        }
+        5 => {
+            fit_codes(left, right, minutes, ordinates, slopes, curvatures, bytes);
+            return;
+        }
+        6 => {
+            write(left, right, minutes, ordinates, slopes, curvatures, bytes);
+            return;
+        }
+        7 => {
+            read(bytes, minutes, ordinates, slopes, curvatures);
+            return;
+        }
+        _ => print::text(b"no such question"),
     }
-    print::end();
-}
-
-pub(crate) fn check(label: &[u8], card: &[u8]) {
-    let checked = card::check(card);
-    print::label(label);
-    print::judged(b"check ", checked.number, checked.place);
-    print::end();
 }

@@ -1,77 +1,82 @@
-// What the lines are made of: labels, numbers and verdicts on standard output.
+// What the lines are made of: words, numbers, verdicts and lists on standard output.
 
-pub(crate) fn heading(text: &[u8]) {
-    io::write_all(1, text);
-    io::write_all(1, b"\n");
+pub(crate) fn text(words: &[u8]) {
+    io::write_all(1, words);
 }
 
-pub(crate) fn label(text: &[u8]) {
-    io::write_all(1, text);
-    io::write_all(1, b": ");
+// A number behind its word.
+pub(crate) fn counted(word: &[u8], number: u32) {
+    io::write_all(1, word);
+    io::write_all(1, b" ");
+    io::print_decimal(1, number as u64);
 }
 
-pub(crate) fn signed(number: i32) {
+pub(crate) fn named(word: &[u8], number: i32) {
+    io::write_all(1, word);
     if number < 0 {
-        io::write_all(1, b"-");
+        io::write_all(1, b" -");
+    } else {
+        io::write_all(1, b" ");
     }
     io::print_decimal(1, decimal::magnitude(number as i64));
 }
 
-// A number behind its word.
-pub(crate) fn named(word: &[u8], number: i32) {
-    io::write_all(1, word);
-    signed(number);
-}
-
-pub(crate) fn counted(word: &[u8], number: u32) {
-    io::write_all(1, word);
-    io::print_decimal(1, number as u64);
-}
-
-pub(crate) fn end() {
-    io::write_all(1, b"\n");
-}
-
 // `ok` or `refused NUMBER at PLACE`.
-pub(crate) fn verdict(number: u32, place: u32) {
-    if number == 0 {
-        io::write_all(1, b"ok");
-    } else {
-        counted(b"refused ", number);
-        counted(b" at ", place);
-    }
-}
-
-// A verdict behind its word.
-pub(crate) fn judged(word: &[u8], number: u32, place: u32) {
+pub(crate) fn verdict(word: &[u8], number: u32, place: u32) {
     io::write_all(1, word);
-    verdict(number, place);
-}
-
-// So many bytes of a text, where it has them.
-pub(crate) fn front(text: &[u8], length: usize) {
-    if length <= text.len() {
-        io::write_all(1, &text[0..length]);
+    if number == 0 && place == 0 {
+        io::write_all(1, b" ok");
+    } else {
+        counted(b" refused", number);
+        counted(b" at", place);
     }
 }
 
-fn space() {
-    io::write_all(1, b" ");
-}
-
-fn wide(byte: u8) -> u64 {
-    byte as u64
-}
-
-// A line of bytes in hexadecimal, with a space between two.
-pub(crate) fn bytes(list: &[u8]) {
+pub(crate) fn buffer(list: &[u8]) {
+    text(b"; buffer");
     let mut i: usize = 0;
     while i < list.len() {
-        if 0 < i {
-            space();
-        }
-        io::print_hex(1, wide(list[i]), 2);
+        text(b" ");
+        byte(list[i]);
         i += 1;
     }
-    end();
+}
+
+fn byte(byte: u8) {
+    io::print_hex(1, byte as u64, 2);
+}
+
+pub(crate) fn minutes(list: &[u16]) {
+    text(b"; minutes");
+    let mut i: usize = 0;
+    while i < list.len() {
+        minute(list[i]);
+        i += 1;
+    }
+}
+
+fn minute(minute: u16) {
+    counted(b"", minute as u32);
+}
+
+pub(crate) fn ordinates(list: &[i16]) {
+    text(b"; ordinates");
+    let mut i: usize = 0;
+    while i < list.len() {
+        ordinate(list[i]);
+        i += 1;
+    }
+}
+
+fn ordinate(ordinate: i16) {
+    named(b"", ordinate as i32);
+}
+
+pub(crate) fn numbers(word: &[u8], list: &[i32]) {
+    text(word);
+    let mut i: usize = 0;
+    while i < list.len() {
+        named(b"", list[i]);
+        i += 1;
+    }
 }

@@ -1,6 +1,6 @@
 //! Without words: compares the library with the reference on many inputs, and ends with 1 where they differ.
 //! `vectors DIR`: runs the reference alone on the vectors of the two programs.
-//! `cases`: prints the lines of the program `cases`, from the reference alone.
+//! `cases FILE`: prints the lines of the program `cases`, which are the reference's answers to a file of questions.
 
 use std::path::Path;
 use std::process::ExitCode;
@@ -23,18 +23,29 @@ fn vectors(folder: &str) -> bool {
     })
 }
 
+fn cases(file: &str) -> bool {
+    let text = std::fs::read_to_string(file).map_err(|error| error.to_string());
+    match text.and_then(|text| independent::lines::answers(&text)) {
+        Ok(answers) => {
+            print!("{answers}");
+            true
+        }
+        Err(words) => {
+            eprintln!("{file}: {words}");
+            false
+        }
+    }
+}
+
 fn main() -> ExitCode {
     let words: Vec<String> = std::env::args().skip(1).collect();
     let words: Vec<&str> = words.iter().map(String::as_str).collect();
     let good = match words[..] {
         [] => compare(),
         ["vectors", folder] => vectors(folder),
-        ["cases"] => {
-            print!("{}", independent::lines::all());
-            true
-        }
+        ["cases", file] => cases(file),
         _ => {
-            eprintln!("usage: independent [vectors DIR | cases]");
+            eprintln!("usage: independent [vectors DIR | cases FILE]");
             return ExitCode::from(2);
         }
     };

@@ -1,27 +1,28 @@
--- `cases::limits::minutes` is safe. Assumes nothing.
+-- `cases::print::ordinates` is safe. Assumes nothing.
 use Prim.Native.Nat.{_-_, _≤_}
-use mathlib.Core.Path.{_≡_}
 use lib.ListN.{length}
 use borrow.Author.Needs.{needs}
-use Rattle.cases.proofs.limits.minutes.Statement.{statement}
-use Rattle.cases.proofs.limits.minutes.Tie as tie
+use Rattle.cases.proofs.print.ordinates.Statement.{statement}
+use Rattle.cases.proofs.print.ordinates.Tie as tie
 
 abbrev Inv-loop : tie.InvT-loop
-Inv-loop minutes₀ i₀ minutes i = (i ≤ 65) × (length minutes ≡ 65)
+Inv-loop list i₀ i = i ≤ length list
 
 abbrev μ-loop : tie.MeasureT-loop
-μ-loop minutes₀ i₀ minutes i = 65 - i
+μ-loop list i₀ i = length list - i
 
-pub minutes-spec : {M : Type 1} → statement M
-minutes-spec =
+pub ordinates-spec : {M : Type 1} → statement M
+ordinates-spec =
     tie.close
     (tie.spec
     Inv-loop
     μ-loop
     (λ c. search needs)
+    (λ c κs. search needs)
     (λ c. search needs)
     (λ c. search needs)
     (λ c. search needs)
+    (λ c κs. search needs)
     (λ c. search needs)
     (λ c. search needs)
     (λ c. search needs)

@@ -1,9 +1,9 @@
--- `cases::print::bytes` is safe. Assumes nothing.
+-- `cases::print::minutes` is safe. Assumes nothing.
 use Prim.Native.Nat.{_-_, _≤_}
 use lib.ListN.{length}
 use borrow.Author.Needs.{needs}
-use Rattle.cases.proofs.print.bytes.Statement.{statement}
-use Rattle.cases.proofs.print.bytes.Tie as tie
+use Rattle.cases.proofs.print.minutes.Statement.{statement}
+use Rattle.cases.proofs.print.minutes.Tie as tie
 
 abbrev Inv-loop : tie.InvT-loop
 Inv-loop list i₀ i = i ≤ length list
@@ -11,8 +11,8 @@ Inv-loop list i₀ i = i ≤ length list
 abbrev μ-loop : tie.MeasureT-loop
 μ-loop list i₀ i = length list - i
 
-pub bytes-spec : {M : Type 1} → statement M
-bytes-spec =
+pub minutes-spec : {M : Type 1} → statement M
+minutes-spec =
     tie.close
     (tie.spec
     Inv-loop
@@ -20,10 +20,10 @@ bytes-spec =
     (λ c. search needs)
     (λ c κs. search needs)
     (λ c. search needs)
-    (λ c κs. search needs)
+    (λ c. search needs)
+    (λ c. search needs)
     (λ c κs. search needs)
     (λ c. search needs)
     (λ c. search needs)
     (λ c. search needs)
-    (λ c κs. search needs)
     (λ c. search needs))

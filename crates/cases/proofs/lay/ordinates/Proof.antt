@@ -1,0 +1,33 @@
+-- `cases::lay::ordinates` meets its contract: the offset stays inside the body. Assumes nothing.
+use Prim.Native.Nat.{_-_, _≤_}
+use mathlib.Core.Path.{_≡_}
+use lib.ListN.{length}
+use borrow.Author.Needs.{needs}
+use Rattle.cases.proofs.lay.ordinates.Statement.{statement}
+use Rattle.cases.proofs.lay.ordinates.Tie as tie
+
+abbrev Inv-loop : tie.InvT-loop
+Inv-loop body from list₀ at₀ i₀ list at i = (at ≤ length body) × (length list ≡ length list₀)
+
+abbrev μ-loop : tie.MeasureT-loop
+μ-loop body from list₀ at₀ i₀ list at i = length list₀ - i
+
+pub ordinates-spec : {M : Type 1} → statement M
+ordinates-spec =
+    tie.close
+    (tie.spec
+    Inv-loop
+    μ-loop
+    (λ c. search needs)
+    (λ c. search needs)
+    (λ c. search needs)
+    (λ c. search needs)
+    (λ c κs. search needs)
+    (λ c. search needs)
+    (λ c. search needs)
+    (λ c. search needs)
+    (λ c. search needs)
+    (λ c. search needs)
+    (λ c. search needs)
+    (λ c. search needs)
+    (λ c. search needs))
