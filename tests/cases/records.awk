@@ -29,11 +29,17 @@ function little(number, size,    rest, byte, text) {
     return text
 }
 
-# A quotient: numerator and divisor.
+# How many times 2^31, and the rest.
+function halves(number,    rest) {
+    rest = (number % 2147483648 + 2147483648) % 2147483648
+    return little((number - rest) / 2147483648, 4) little(rest, 4)
+}
+
+# A numerator and a divisor.
 function quotient(word,    at) {
     at = index(word, "/")
-    if (at == 0) return little(word, 8) little(1, 8)
-    return little(substr(word, 1, at - 1), 8) little(substr(word, at + 1), 8)
+    if (at == 0) return halves(word) halves(1)
+    return halves(substr(word, 1, at - 1)) halves(substr(word, at + 1))
 }
 
 function hexadecimal(word) {
@@ -200,6 +206,7 @@ $1 == "heading" {
     for (i = 1; i <= n; i++) {
         bytes_record(printed, 0, text_bytes($2 ": "))
         ask(asked[i])
+        bytes_record(printed, 0, text_bytes("\n"))
     }
 }
 

@@ -73,23 +73,17 @@ fn fit(minutes: &[u16], ordinates: &[i16], slopes: &mut [i32], curvatures: &mut 
     fitted(answer, slopes, curvatures);
 }
 
-// A whole number of eight bytes, exact up to 2^53.
-fn wide(list: &[u8], at: usize) -> f64
-    requires { ⌜ at + 8 ≤ length (now list) ⌝ }
-{
-    let low = bytes::read_u16(list, at) as f64;
-    let middle = bytes::read_u16(list, at + 2) as f64;
-    let high = bytes::read_i32(list, at + 4) as f64;
-    high * 4294967296.0 + (middle * 65536.0 + low)
-}
-
-fn quotient(list: &[u8], at: usize) -> f64
+// A numerator and a divisor, each as how many times 2^31 and the rest: exact up to 2^53.
+fn number(list: &[u8], at: usize) -> f64
     requires { ⌜ at + 16 ≤ length (now list) ⌝ }
 {
-    wide(list, at) / wide(list, at + 8)
+    let many = bytes::read_i32(list, at) as f64;
+    let rest = bytes::read_i32(list, at + 4) as f64;
+    let divisor_many = bytes::read_i32(list, at + 8) as f64;
+    let divisor_rest = bytes::read_i32(list, at + 12) as f64;
+    (many * 2147483648.0 + rest) / (divisor_many * 2147483648.0 + divisor_rest)
 }
 
-// The ends' numbers come as quotients.
 fn fit_codes(
     left: u16,
     right: u16,
@@ -108,17 +102,29 @@ fn fit_codes(
         slopes,
         curvatures,
         left,
-        quotient(ends, 0),
-        quotient(ends, 16),
+        number(ends, 0),
+        number(ends, 16),
         right,
-        quotient(ends, 32),
-        quotient(ends, 48),
+        number(ends, 32),
+        number(ends, 48),
     );
     fitted(answer, slopes, curvatures);
 }
 
-// By the kind of the record.
-pub(crate) fn ask(
+// The questions about bytes, by the kind of the record; kind 0 is a text to print.
+pub(crate) fn of_bytes(kind: u16, minute: u16, list: &[u8]) {
+    match kind {
+        1 => mean(minute, list),
+        2 => reading(minute, list),
+        3 => check(list),
+        _ => {
+            io::write_all(1, list);
+        }
+    }
+}
+
+// The questions that lend lists.
+pub(crate) fn of_lists(
     kind: u16,
     left: u16,
     right: u16,
@@ -126,29 +132,24 @@ pub(crate) fn ask(
     ordinates: &mut [i16],
     slopes: &mut [i32],
     curvatures: &mut [i32],
-    bytes: &mut [u8],
+    list: &mut [u8],
 ) {
     match kind {
-        0 => print::text(bytes),
-        1 => mean(left, bytes),
-        2 => reading(left, bytes),
-        3 => check(bytes),
         4 => {
             fit(minutes, ordinates, slopes, curvatures);
             return;
         }
         5 => {
-            fit_codes(left, right, minutes, ordinates, slopes, curvatures, bytes);
+            fit_codes(left, right, minutes, ordinates, slopes, curvatures, list);
             return;
         }
         6 => {
-            write(left, right, minutes, ordinates, slopes, curvatures, bytes);
+            write(left, right, minutes, ordinates, slopes, curvatures, list);
             return;
         }
-        7 => {
-            read(bytes, minutes, ordinates, slopes, curvatures);
+        _ => {
+            read(list, minutes, ordinates, slopes, curvatures);
             return;
         }
-        _ => print::text(b"no such question"),
     }
 }

@@ -1,6 +1,5 @@
 // A record's body taken apart into what is lent to the library: six numbers of two bytes, then minutes, ordinates, slopes and curvatures, then bytes.
 use crate::ask;
-use crate::print;
 ghost use Prim.Native.Nat.{_+_, _≤_};
 ghost use lib.ListN.{length};
 
@@ -74,14 +73,15 @@ fn lent(kind: u16, body: &mut [u8], x: &mut [u16], y: &mut [i16], m: &mut [i32],
     let behind_ordinates = ordinates(body, behind_minutes, y);
     let behind_slopes = numbers(body, behind_ordinates, m);
     let rest = numbers(body, behind_slopes, c);
-    ask::ask(kind, left, right, x, y, m, c, &mut body[rest..]);
-    if kind != 0 {
-        print::text(b"\n");
-    }
+    ask::of_lists(kind, left, right, x, y, m, c, &mut body[rest..]);
 }
 
 pub(crate) fn question(kind: u16, body: &mut [u8]) {
     if body.len() < 12 {
+        return;
+    }
+    if kind < 4 {
+        ask::of_bytes(kind, bytes::read_u16(body, 8), &body[12..]);
         return;
     }
     let x = places(body, 0);

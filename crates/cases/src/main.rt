@@ -4,13 +4,8 @@ mod ask;
 mod lay;
 mod print;
 
-ghost use Prim.Native.Nat.{_≤_};
-ghost use lib.ListN.{length};
-
 // Reads a record and answers it; false where the input has no more.
-fn answer_record(space: &mut [u8]) -> bool
-    requires { ⌜ 65535 ≤ length (now space) ⌝ }
-{
+fn answer_record(space: &mut [u8]) -> bool {
     let mut head = [0u8; 4];
     let got = io::read_full(0, &mut head);
     if got < 4 {
@@ -18,6 +13,9 @@ fn answer_record(space: &mut [u8]) -> bool
     }
     let length = bytes::read_u16(&head, 0) as usize;
     let kind = bytes::read_u16(&head, 2);
+    if space.len() < length {
+        return false;
+    }
     let had = io::read_full(0, &mut space[..length]);
     lay::question(kind, &mut space[..had]);
     true
@@ -25,7 +23,7 @@ fn answer_record(space: &mut [u8]) -> bool
 
 // At most so many records: a program that is proved must end.
 fn main() {
-    let mut space = io::large_buffer();
+    let mut space = io::buffer();
     let mut left: usize = 1_000_000;
     while 0 < left {
         if answer_record(&mut space) {

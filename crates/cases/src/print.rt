@@ -1,9 +1,5 @@
 // What the lines are made of: words, numbers, verdicts and lists on standard output.
 
-pub(crate) fn text(words: &[u8]) {
-    io::write_all(1, words);
-}
-
 // A number behind its word.
 pub(crate) fn counted(word: &[u8], number: u32) {
     io::write_all(1, word);
@@ -33,34 +29,26 @@ pub(crate) fn verdict(word: &[u8], number: u32, place: u32) {
 }
 
 pub(crate) fn buffer(list: &[u8]) {
-    text(b"; buffer");
+    io::write_all(1, b"; buffer");
     let mut i: usize = 0;
     while i < list.len() {
-        text(b" ");
-        byte(list[i]);
+        io::write_all(1, b" ");
+        io::print_hex(1, list[i] as u64, 2);
         i += 1;
     }
-}
-
-fn byte(byte: u8) {
-    io::print_hex(1, byte as u64, 2);
 }
 
 pub(crate) fn minutes(list: &[u16]) {
-    text(b"; minutes");
+    io::write_all(1, b"; minutes");
     let mut i: usize = 0;
     while i < list.len() {
-        minute(list[i]);
+        counted(b"", list[i] as u32);
         i += 1;
     }
 }
 
-fn minute(minute: u16) {
-    counted(b"", minute as u32);
-}
-
 pub(crate) fn ordinates(list: &[i16]) {
-    text(b"; ordinates");
+    io::write_all(1, b"; ordinates");
     let mut i: usize = 0;
     while i < list.len() {
         ordinate(list[i]);
@@ -73,7 +61,7 @@ fn ordinate(ordinate: i16) {
 }
 
 pub(crate) fn numbers(word: &[u8], list: &[i32]) {
-    text(word);
+    io::write_all(1, word);
     let mut i: usize = 0;
     while i < list.len() {
         named(b"", list[i]);

@@ -34,6 +34,7 @@ answer-record-spec =
     (λ c. search needs)
     (λ c κs. search needs)
     (λ c. search needs)
+    (λ c. search needs)
     slice-aggregate-read-full-2
     (λ c κs. search needs)
     slice-relend-prefix-question

@@ -1,5 +1,4 @@
 -- `cases::main` ends: a turn takes one off what is left. Assumes nothing.
-use Prim.Native.Nat.{ℕ}
 use mathlib.Core.Path.{_≡_, sym, _∙_}
 use native.Mathlib.Omega.{arith}
 use lib.ListN.{length}
@@ -8,19 +7,16 @@ use Rattle.cases.proofs.main.Statement.{statement}
 use Rattle.cases.proofs.main.Tie as tie
 
 abbrev Inv-loop : tie.InvT-loop
-Inv-loop space₀ left₀ space left = length space ≡ 65536
+Inv-loop space₀ left₀ space left = length space ≡ 4096
 
 abbrev μ-loop : tie.MeasureT-loop
 μ-loop space₀ left₀ space left = left
 
 loop-holds : tie.Need-loop-holds Inv-loop μ-loop
-loop-holds c = sym (c .large-buffer .ensures)
+loop-holds c = sym (c .buffer .ensures)
 
 slice-aggregate-answer-record : tie.Need-slice-aggregate-answer-record Inv-loop μ-loop
 slice-aggregate-answer-record c = sym (c .before .before .loop .inv)
-
-answer-record-requires : tie.Need-answer-record-requires Inv-loop μ-loop
-answer-record-requires c κs = omega (arith, c .before .before .loop .inv)
 
 loop-again : tie.Need-loop-again Inv-loop μ-loop
 loop-again c = c .before .before .answer-record .kept .0 ∙ c .before .before .before .before .before .loop .inv
@@ -37,7 +33,7 @@ main-spec =
     (λ c κs. search needs)
     loop-holds
     slice-aggregate-answer-record
-    answer-record-requires
+    (λ c κs. search needs)
     (λ c. omega arith)
     (λ c. omega arith)
     loop-again

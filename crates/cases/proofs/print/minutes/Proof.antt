@@ -1,15 +1,19 @@
 -- `cases::print::minutes` is safe. Assumes nothing.
 use Prim.Native.Nat.{_-_, _≤_}
+use native.Mathlib.Omega.{arith}
 use lib.ListN.{length}
 use borrow.Author.Needs.{needs}
 use Rattle.cases.proofs.print.minutes.Statement.{statement}
 use Rattle.cases.proofs.print.minutes.Tie as tie
 
 abbrev Inv-loop : tie.InvT-loop
-Inv-loop list i₀ i = i ≤ length list
+Inv-loop list i₀ t4 i = i ≤ length list
 
 abbrev μ-loop : tie.MeasureT-loop
-μ-loop list i₀ i = length list - i
+μ-loop list i₀ t4 i = length list - i
+
+cast-counted : tie.Need-cast-counted Inv-loop μ-loop
+cast-counted c = omega (arith, c .shared-slice-known2 .given (c .before .before .before .loop .i))
 
 pub minutes-spec : {M : Type 1} → statement M
 minutes-spec =
@@ -22,6 +26,8 @@ minutes-spec =
     (λ c. search needs)
     (λ c. search needs)
     (λ c. search needs)
+    (λ c. search needs)
+    cast-counted
     (λ c κs. search needs)
     (λ c. search needs)
     (λ c. search needs)
