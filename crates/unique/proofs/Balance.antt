@@ -1,49 +1,20 @@
--- The difference of two solutions meets the equations of zero ordinates; and where slope × fourth-derivative equation and curvature × third-derivative
--- equation are zero, what arrives at a knot leaves it. At an end the missing gap is the gap 0, over which nothing arrives and nothing leaves.
+-- Where slope × fourth-derivative equation and curvature × third-derivative equation are zero, what arrives at a knot leaves it. At an end the missing gap is
+-- the gap 0, over which nothing arrives and nothing leaves.
 -- Assumes nothing.
 use mathlib.Core.Path.{_≡_, refl, sym, ap, ap₂, _∙_}
-use mathlib.Core.List.{List, [], _∷_}
+use mathlib.Core.List.{[], _∷_}
 use Prim.Native.Nat.{ℕ, zero, suc, _-_, _*_, _^_, _≤_, _<_}
 use native.Mathlib.Nat.{pow-succ', mul-pos, one-le-pow}
 use native.Mathlib.Omega.{arith}
-use lib.IntN.{ℤ, pos, _+ℤ_, _*ℤ_, _-ℤ_}
+use lib.IntN.{ℤ, pos, _+ℤ_, _*ℤ_}
 use Rattle.whole.specs.Whole.{_·_}
-use Rattle.whole.proofs.Solve.{E, _:+_, _:-_, _:*_, #, Sides, ring}
+use Rattle.whole.proofs.Solve.{E, _:+_, _:*_, #, ring}
 use Rattle.whole.proofs.Order.{*ℤ-cancel}
-use Rattle.curve.specs.Formula.{num, nat, worth, amount}
-use Rattle.curve.specs.Curve.{Order, third, fourth, degree, rightward, leftward, equation, equals}
+use Rattle.curve.specs.Formula.{num, worth, amount}
+use Rattle.curve.specs.Curve.{Order, third, fourth, degree, rightward, leftward, equation}
 use Rattle.curve.specs.Jump.{inverse, clear, over}
-use Rattle.curve.proofs.Written.{amountE, powers, equating, equalling}
+use Rattle.curve.proofs.Written.{amountE, powers, equating}
 use Rattle.unique.proofs.Energy.{inverses, positive, leaving, arriving}
-
--- ---- the difference of two solutions
-
-module _ (g p : ℕ → ℤ) (y⁻ y y⁺ : ℤ) (q r : ℕ) (s⁻ c⁻ s c s⁺ c⁺ t⁻ d⁻ t d t⁺ d⁺ : ℤ) where
-  abbrev both : List ℤ
-  both = pos q ∷ pos r ∷ g 1 ∷ g 2 ∷ g 3 ∷ g 4 ∷ p 1 ∷ p 2 ∷ p 3 ∷ p 4 ∷ y⁻ ∷ y ∷ y⁺ ∷ s⁻ ∷ c⁻ ∷ s ∷ c ∷ s⁺ ∷ c⁺ ∷ t⁻ ∷ d⁻ ∷ t ∷ d ∷ t⁺ ∷ d⁺ ∷ []
-
-  abbrev apart : Order → Sides both
-  apart o =
-      λ q r g₁ g₂ g₃ g₄ p₁ p₂ p₃ p₄ y⁻ y y⁺ s⁻ c⁻ s c s⁺ c⁺ t⁻ d⁻ t d t⁺ d⁺.
-      let g : ℕ → E = powers g₁ g₂ g₃ g₄ in
-      let p : ℕ → E = powers p₁ p₂ p₃ p₄ in (
-        amountE (equating g p o (r :* s⁻ :- q :* t⁻) (r :* c⁻ :- q :* d⁻) (r :* s :- q :* t) (r :* c :- q :* d) (r :* s⁺ :- q :* t⁺) (r :* c⁺ :- q :* d⁺)),
-        r :* (amountE (equating g p o s⁻ c⁻ s c s⁺ c⁺) :- amountE (equalling g p o (num q) y⁻ y y⁺))
-            :- q :* (amountE (equating g p o t⁻ d⁻ t d t⁺ d⁺) :- amountE (equalling g p o (num r) y⁻ y y⁺)),
-      )
-
-  gone : {a b a′ b′ : ℤ} → a ≡ b → a′ ≡ b′ → r · (a -ℤ b) -ℤ q · (a′ -ℤ b′) ≡ pos 0
-  gone {b} {b′} e e′ = rw (e, e′) (ring (pos q ∷ pos r ∷ b ∷ b′ ∷ []) (λ q r b b′. (r :* (b :- b) :- q :* (b′ :- b′), # 0)) tt)
-
-  pub differ : (o : Order) →
-      amount (equating g p o s⁻ c⁻ s c s⁺ c⁺) ≡ amount (equalling g p o (nat q) y⁻ y y⁺) →
-      amount (equating g p o t⁻ d⁻ t d t⁺ d⁺) ≡ amount (equalling g p o (nat r) y⁻ y y⁺) →
-      amount (equating g p o (r · s⁻ -ℤ q · t⁻) (r · c⁻ -ℤ q · d⁻) (r · s -ℤ q · t) (r · c -ℤ q · d) (r · s⁺ -ℤ q · t⁺) (r · c⁺ -ℤ q · d⁺)) ≡ pos 0
-  unfolding amount worth equation equals
-  differ third e e′ = ring both (apart third) tt ∙ gone e e′
-  differ fourth e e′ = ring both (apart fourth) tt ∙ gone e e′
-
--- ---- at a knot
 
 -- over the gap 0
 pub none-leaves : (s c s⁺ c⁺ : ℤ) → amount (leaving (inverses 0) s c s⁺ c⁺) ≡ pos 0

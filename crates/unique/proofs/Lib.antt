@@ -1,3 +1,4 @@
+pub mod Linear
 pub mod Energy
 pub mod Balance
 pub mod Zero

@@ -15,7 +15,7 @@ use Rattle.curve.specs.Card.{Card, knots, knot, gap, back, on, spot}
 use Rattle.curve.specs.Jump.{inverse, clear, over}
 use Rattle.curve.specs.Exact.{Meets, Exact}
 use Rattle.curve.proofs.Accepted.{Good, rising}
-use Rattle.unique.proofs.Balance.{differ}
+use Rattle.unique.proofs.Linear.{differ}
 use Rattle.unique.proofs.Zero.{row-at, all-zero}
 
 -- at least three knots, and each minute above the one before
