@@ -102,7 +102,7 @@ module _ (K : Kind) (E : Enough K) (card : Card) (e : Exact K card) (near : Near
       within : pos (natAbs (jump o a b f)) ≤ℤ (right +ℤ left)
       within = omega (linear, there, ours, theirs, add-is right left, mul-is (pos 2) right, mul-is (pos 2) left)
 
-  smooth-there : (i : ℕ) → i < knots card → smooth K card i ≡ accepted
+  pub smooth-there : (i : ℕ) → i < knots card → smooth K card i ≡ accepted
   unfolding smooth refuse joint jumps
   smooth-there i h =
       rw (asked (K .asks (spot card i) third) _ (small third i h), asked (K .asks (spot card i) fourth) _ (small fourth i h))
