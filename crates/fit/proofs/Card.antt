@@ -24,7 +24,7 @@ abbrev card-in : Card → Answer Card → Card
 card-in d (given c) = c
 card-in d (refused n p) = d
 
-codes-known : (left right : End) → codes quintic (code left) (code right) ≡ accepted
+pub codes-known : (left right : End) → codes quintic (code left) (code right) ≡ accepted
 unfolding codes quintic
 codes-known left right = both-accept (accepts-refuse 15 0 (code-known left)) (accepts-refuse 15 1 (code-known right))
 
