@@ -77,8 +77,9 @@ module _ (minutes : List ℕ) (ordinates : List ℤ) (left right : End) where
           never-10 = rounded-never-10 (found .0 .exact);
         }
 
-  -- and so behind each card that a fit gives, however its ends came
-  pub behind-a-card : (ms Ms : ℕ) (named : Verdict) {card : Card} → fit-of minutes ordinates left right ms Ms named ≡ given card → OneSolution minutes ordinates left right
+  -- so there is one behind each card that a fit gives, whether its ends came by kind or by code
+  pub behind-a-card : (ms Ms : ℕ) (named : Verdict) {card : Card} →
+      fit-of minutes ordinates left right ms Ms named ≡ given card → OneSolution minutes ordinates left right
   unfolding before-8
   behind-a-card ms Ms named e =
       let order = in-groups minutes ordinates left right ms Ms named ∙ e in

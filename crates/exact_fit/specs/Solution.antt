@@ -1,5 +1,6 @@
--- Document 01, of a fit's sheet and its ends: "With n ≥ 3 the exact solution is unique for each mix of ends"; there is one, and "numbers within half a unit
--- of one always pass". Assumes nothing.
+-- The exact solution behind a fit: of every sheet that the fit's steps 3, 1, 2, 4, 5, 6 accept, between any two ends that 7 accepts. Document 01, "The
+-- equations": "With n ≥ 3 the exact solution is unique for each mix of ends"; "The jump test": "numbers within half a unit of one always pass".
+-- Assumes nothing.
 use mathlib.Core.Path.{_≡_}
 use mathlib.Core.Logic.{_≢_}
 use mathlib.Core.List.{List, []}
@@ -36,13 +37,13 @@ module _ (minutes : List ℕ) (ordinates : List ℤ) (left right : End) where
   abbrev pub sheet : Card
   sheet = lent minutes ordinates [] [] (code left) (code right)
 
-  -- an exact solution of the sheet, with exactly the given numbers at its ends
+  -- "a set of fractions that meets both equations at inner knots and, at an end, those its code does not replace", with exactly the given numbers there
   pub record Solution : Type 0 where
     pub exact : Exact quintic sheet
     pub at-left : HasGiven exact 0 left
     pub at-right : HasGiven exact (n - 1) right
 
-  -- there is one, and no other; rounded to card units it is a card that 9 refuses or that is accepted, and never refused with 10
+  -- there is one, and no other; rounded to card units it is a card that is refused with 9 or accepted, never with 10
   pub record OneSolution : Type 0 where
     pub solution : Solution
     pub only : (other : Solution) (i : ℕ) → i < n → Same (solution .exact) (other .exact) i
