@@ -30,7 +30,7 @@ fn check(card: &[u8]) {
     checked(b"check", card::check(card));
 }
 
-fn read(
+pub(crate) fn read(
     card: &[u8],
     minutes: &mut [u16],
     ordinates: &mut [i16],
@@ -123,13 +123,13 @@ pub(crate) fn of_bytes(kind: u16, minute: u16, list: &[u8]) {
     }
 }
 
-// The questions that lend lists.
-pub(crate) fn of_lists(
+// The questions about knots.
+pub(crate) fn of_knots(
     kind: u16,
     left: u16,
     right: u16,
-    minutes: &mut [u16],
-    ordinates: &mut [i16],
+    minutes: &[u16],
+    ordinates: &[i16],
     slopes: &mut [i32],
     curvatures: &mut [i32],
     list: &mut [u8],
@@ -143,12 +143,8 @@ pub(crate) fn of_lists(
             fit_codes(left, right, minutes, ordinates, slopes, curvatures, list);
             return;
         }
-        6 => {
-            write(left, right, minutes, ordinates, slopes, curvatures, list);
-            return;
-        }
         _ => {
-            read(list, minutes, ordinates, slopes, curvatures);
+            write(left, right, minutes, ordinates, slopes, curvatures, list);
             return;
         }
     }

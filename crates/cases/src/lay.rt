@@ -73,7 +73,7 @@ fn lent(kind: u16, body: &mut [u8], x: &mut [u16], y: &mut [i16], m: &mut [i32],
     let behind_ordinates = ordinates(body, behind_minutes, y);
     let behind_slopes = numbers(body, behind_ordinates, m);
     let rest = numbers(body, behind_slopes, c);
-    ask::of_lists(kind, left, right, x, y, m, c, &mut body[rest..]);
+    ask::of_knots(kind, left, right, x, y, m, c, &mut body[rest..]);
 }
 
 pub(crate) fn question(kind: u16, body: &mut [u8]) {
@@ -88,10 +88,20 @@ pub(crate) fn question(kind: u16, body: &mut [u8]) {
     let y = places(body, 2);
     let m = places(body, 4);
     let c = places(body, 6);
-    let mut minutes = [0u16; 66];
-    let mut ordinates = [0i16; 66];
-    let mut slopes = [0i32; 66];
-    let mut curvatures = [0i32; 66];
+    let mut minutes = [7u16; 66];
+    let mut ordinates = [7i16; 66];
+    let mut slopes = [7i32; 66];
+    let mut curvatures = [7i32; 66];
+    if kind == 7 {
+        ask::read(
+            &body[12..],
+            &mut minutes[..x],
+            &mut ordinates[..y],
+            &mut slopes[..m],
+            &mut curvatures[..c],
+        );
+        return;
+    }
     lent(
         kind,
         body,
