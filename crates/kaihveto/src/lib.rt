@@ -1,8 +1,10 @@
 // The boundary to C and Rust: one function for each thing that a controller or a program asks, under a fixed name. A slice passes as a pointer and its length;
-// an answer is a struct by value whose first fields are document 01's number and place, with zeros behind a refusal. None asks anything of its caller.
+// an answer is a struct by value whose first fields are document 01's number and place, with zeros behind a refusal. None asks anything of its caller. What is promised as
+// `typed` is only what a list's type says of its elements, so that theorems on the promises can use it.
 ghost use mathlib.Core.Path.{_≡_};
 ghost use lib.ListN.{length};
 ghost use Rattle.curve.specs.Log.{mean};
+ghost use Rattle.bytes.specs.Numbers.{Bytes};
 ghost use Rattle.knots.specs.Lent.{lent};
 ghost use Rattle.log.specs.Answers.{answered};
 ghost use Rattle.fit.specs.Fit.{fit, fit-codes};
@@ -11,6 +13,7 @@ ghost use Rattle.card_bytes.specs.Held.{card-of};
 ghost use Rattle.card.specs.Answers.{own, checked, read-off};
 ghost use Rattle.card.specs.Promise.{lists, Reads};
 ghost use Rattle.writer.specs.Promise.{Writes};
+ghost use Rattle.kaihveto.specs.Types.{Minutes};
 
 // The mean of a log that starts at a minute: 16, 12, 13.
 #[no_mangle]
@@ -75,6 +78,7 @@ pub extern "C" fn kaihveto_write(
     buffer: &mut [u8],
 ) -> writer::Written
     ensures { λ r. ⌜ Writes (lent (now (minutes .entry)) (now (ordinates .entry)) (now (slopes .entry)) (now (curvatures .entry)) left right) (now (buffer .entry)) (now (buffer .exit)) r ⌝ }
+    ensures typed { λ r. ⌜ Minutes (now (minutes .entry)) ⌝ }
 {
     writer::write(minutes, ordinates, slopes, curvatures, left, right, buffer)
 }
@@ -83,6 +87,7 @@ pub extern "C" fn kaihveto_write(
 #[no_mangle]
 pub extern "C" fn kaihveto_check(card: &[u8]) -> card::Checked
     ensures { λ r. ⌜ r ≡ checked (own (now (card .entry))) (card-of (now (card .entry))) ⌝ }
+    ensures typed { λ r. ⌜ Bytes (now (card .entry)) ⌝ }
 {
     card::check(card)
 }

@@ -127,6 +127,11 @@ module _ {K A S : Type 0} (f : K → A → Verdict) where
   judgement : Once (λ (κs : K) (a : A) (x : Judged) (s : S). verdict-of x ≡ f κs a)
   judgement κs a x y s t = one-judgement
 
+-- a promise that says more leaves no more open
+module _ {K A X S B : Type 0} {Post : K → A → X → S → Type 0} (More : K → A → X → S → Type 0) (left : X → S → B) where
+  with-more : Leaves Post left → Leaves (λ κs a x s. Post κs a x s × More κs a x s) left
+  with-more once κs a x y s t p q = once κs a x y s t (p .0) (q .0)
+
 module _ {K A S : Type 0} (card : K → A → Card) (entry : K → A → List ℕ) (exit : S → List ℕ) where
   abbrev Writing : K → A → Written → S → Type 0
   Writing κs a x s = Writes (card κs a) (entry κs a) (exit s) x
@@ -313,7 +318,7 @@ listed = putting _ _ _ _
 -- ---- the boundary: the parameters stand as in the functions behind it
 
 pub boundary : Once c-mean.Post × Once c-check.Post × Once c-reading.Post
-boundary = (equation _ _, equation _ _, equation _ _)
+boundary = (equation _ _, with-more _ _ (equation _ _), equation _ _)
 
 pub boundary-fit : Once c-fit.Post × Lent c-fit.Post (λ s. now (s .1 .1 .0)) × Lent c-fit.Post (λ s. now (s .1 .1 .1 .0))
 boundary-fit = fitting _ _ _ _ _
@@ -325,4 +330,4 @@ pub boundary-read : Once c-read.Post × Four (λ s. now (s .1 .0)) (λ s. now (s
 boundary-read = reading-into _ _ _
 
 pub boundary-written : Once c-write.Post × Lent c-write.Post (λ s. now (s .1 .1 .1 .1 .1 .1 .0))
-boundary-written = writing _ _ _
+boundary-written = let w = writing _ _ _ in (with-more _ _ (w .0), with-more _ _ (w .1))
