@@ -1,4 +1,6 @@
 pub mod Numbered
+pub mod Answered
 pub mod RoundTrip
-pub mod Demand3
-pub mod FitToCard
+pub mod Off
+pub mod Given
+pub mod Demands

@@ -1,1 +1,2 @@
-pub mod Demand
+pub mod Calls
+pub mod Demands

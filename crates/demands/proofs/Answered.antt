@@ -1,0 +1,196 @@
+-- Demand 1 of each function: what its answer says, what it has beside a refusal, and what it leaves in the lists that it was lent.
+-- Assumes nothing.
+use Prim.Native.Nat.{ℕ, _+_, _≤_}
+use mathlib.Core.Path.{_≡_, refl, sym, ap, subst, _∙_}
+use mathlib.Core.Logic.{_≢_}
+use mathlib.Core.List.{List, [], _++_}
+use native.Mathlib.Omega.{arith}
+use lib.IntN.{ℤ, pos}
+use lib.ListN.{length, drop, length-append, length-drop}
+use lib.Seq.{drop-at, drop-length}
+use Rattle.answer.specs.Answer.{Answer, refused, given, Verdict, accepted, number, place}
+use Rattle.answer.specs.Lent.{lent-after}
+use Rattle.answer.proofs.Never.{Never}
+use Rattle.curve.specs.Kind.{quintic}
+use Rattle.curve.specs.Card.{Card, knots}
+use Rattle.curve.specs.Log as Log
+use Rattle.curve.specs.Reading.{Reading}
+use Rattle.curve.specs.Steps.{size}
+use Rattle.curve.specs.Orders.{write-order, reading-order}
+use Rattle.curve.proofs.Accepted.{Good, good}
+use Rattle.log.specs.declared.Mean.{Mean}
+use Rattle.log.specs.Answers as Log-answers
+use Rattle.lists.specs.declared.CardReading.{CardReading}
+use Rattle.lists.specs.Lists as Lists-answers
+use Rattle.fit.specs.Promise.{Fits, slopes-after, curvatures-after}
+use Rattle.fit.proofs.Card.{places-lent, places-written}
+use Rattle.card_bytes.specs.Bytes.{quintic-head, bytes-of}
+use Rattle.card_bytes.specs.Held.{card-of}
+use Rattle.card_bytes.proofs.Sizes.{length-card}
+use Rattle.card_bytes.proofs.RoundTrip.{accepted-card}
+use Rattle.card.specs.declared.Checked.{Checked}
+use Rattle.card.specs.Answers.{own, checked, read-off}
+use Rattle.card.specs.Promise.{Lists, into, Reads}
+use Rattle.card.proofs.Lists.{taken}
+use Rattle.writer.specs.declared.Written.{Written}
+use Rattle.writer.specs.Promise.{written, Writes}
+use Rattle.writer.proofs.Ready.{ready-of}
+use Rattle.demands.specs.Calls.{Fitting, the-fit}
+use Rattle.demands.specs.Demands.{Is-given, Says, Spares, No-card, Fit-answers}
+use Rattle.demands.proofs.Numbered.{says, accepts, mean-numbered, fit-numbered, write-numbered, card-numbered, into-numbered, reading-numbered}
+
+-- ---- lent lists
+
+untouched : {A : Type 0} (v : Verdict) (vs list : List A) → v ≢ accepted → lent-after v vs list ≡ list
+unfolding lent-after
+untouched (refused n p) vs list h = refl
+untouched (given u) vs list h = absurd (h refl)
+
+-- the front of a list is written where its verdict accepts
+pub spares : {A : Type 0} {v : Verdict} {n p k : ℕ} (vs entry : List A) {exit : List A} → Says v n p → exit ≡ lent-after v vs entry
+    → (v ≡ accepted → (length vs ≡ k) × (k ≤ length entry)) → Spares n k entry exit
+unfolding lent-after
+spares {v = v} {k = k} vs entry {exit} s e room =
+    record { refused = λ h. e ∙ untouched v vs entry (λ a. h (s .accepted (record { what = tt; is = a }))); given = λ z. front (accepts s z) }
+  where
+    front : v ≡ accepted → (length exit ≡ length entry) × (drop k exit ≡ drop k entry)
+    front a =
+        let r = room a in
+        let is : exit ≡ vs ++ drop (length vs) entry = e ∙ ap (λ u. lent-after u vs entry) a in
+        (
+          ap length is ∙ simp (length-append, length-drop) (omega arith),
+          ap (drop k) is ∙ drop-at vs _ k (r .0) ∙ ap (λ i. drop i entry) (r .0),
+        )
+
+-- ---- the mean of a log
+
+-- zeros beside a refusal
+abbrev pub No-mean : Mean → Type 0
+No-mean r = r .number ≢ 0 → (r .minute ≡ 0) × (r .ordinate ≡ pos 0) × (r .good ≡ 0)
+
+mean-fields : (v : Answer Log.Mean) → (let r = Log-answers.answered v in (r .number ≡ number v) × (r .place ≡ place v) × No-mean r)
+unfolding Log-answers.answered number place
+mean-fields (refused n p) = (refl, refl, λ h. (refl, refl, refl))
+mean-fields (given m) = (refl, refl, λ h. absurd (h refl))
+
+pub mean-answers : (minute : ℕ) (log : List ℕ) {r : Mean} → r ≡ Log-answers.answered (Log.mean minute log) → Says (Log.mean minute log) (r .number) (r .place) × No-mean r
+mean-answers minute log e =
+    let v = Log.mean minute log in
+    let f = mean-fields v in
+    subst (λ r. Says v (r .number) (r .place) × No-mean r) (sym e) (says v (mean-numbered minute log) (f .0) (f .1), f .2)
+
+-- ---- a fit
+
+-- nothing stands behind the n places of a list
+behind : (l : List ℤ) {n : ℕ} → length l ≡ n → drop n l ≡ []
+behind l e = rw (← e) (drop-length l)
+
+module _ (f : Fitting) (named : Never 0 (f .named)) (fits : Fits (the-fit f) (f .slopes) (f .curvatures) (f .slopes′) (f .curvatures′) (f .answer)) where
+  fit-says : Says (the-fit f) (f .answer .number) (f .answer .place)
+  fit-says =
+      says (the-fit f) (fit-numbered (f .minutes) (f .ordinates) (f .left) (f .right) _ _ named) (ap (λ r. r .number) (fits .answer)) (ap (λ r. r .place) (fits .answer))
+
+  -- every place of the two lists is written, or none
+  fit-spares : {entry exit : List ℤ} (after : Answer Card → List ℤ → List ℤ) → exit ≡ after (the-fit f) entry → ((n p : ℕ) → after (refused n p) entry ≡ entry)
+      → ((c : Card) → the-fit f ≡ given c → (length (after (given c) entry) ≡ length (f .minutes)) × (length entry ≡ length (f .minutes))) → Spares (f .answer .number) (length (f .minutes)) entry exit
+  fit-spares {entry} {exit} after e none all = record { refused = λ h. e ∙ go (the-fit f) refl h; given = λ z. written (fit-says .accepts z) }
+    where
+      go : (v : Answer Card) → the-fit f ≡ v → f .answer .number ≢ 0 → after v entry ≡ entry
+      go (refused n p) is h = none n p
+      go (given c) is h = absurd (h (fit-says .accepted (record { what = c; is = is })))
+
+      written : Is-given (the-fit f) → (length exit ≡ length entry) × (drop (length (f .minutes)) exit ≡ drop (length (f .minutes)) entry)
+      written g =
+          let l = all (g .what) (g .is) in
+          let long : length exit ≡ length (f .minutes) = ap length (e ∙ ap (λ v. after v entry) (g .is)) ∙ l .0 in
+          (long ∙ sym (l .1), behind exit long ∙ sym (behind entry (l .1)))
+
+  pub fit-answers : Fit-answers f
+  fit-answers = record { says = fit-says; slopes = fit-spares slopes-after (fits .slopes) (λ n p. refl) all; curvatures = fit-spares curvatures-after (fits .curvatures) (λ n p. refl) all′ }
+    where
+      all : (c : Card) → the-fit f ≡ given c → (length (c .slopes) ≡ length (f .minutes)) × (length (f .slopes) ≡ length (f .minutes))
+      all c is = (places-written (f .minutes) (f .ordinates) (f .left) (f .right) _ _ (f .named) is .0, places-lent (f .minutes) (f .ordinates) (f .left) (f .right) _ _ (f .named) is .0)
+
+      all′ : (c : Card) → the-fit f ≡ given c → (length (c .curvatures) ≡ length (f .minutes)) × (length (f .curvatures) ≡ length (f .minutes))
+      all′ c is = (places-written (f .minutes) (f .ordinates) (f .left) (f .right) _ _ (f .named) is .1, places-lent (f .minutes) (f .ordinates) (f .left) (f .right) _ _ (f .named) is .1)
+
+-- ---- a card
+
+card-fields : (v : Verdict) (c : Card) → (let r = checked v c in (r .number ≡ number v) × (r .place ≡ place v) × No-card r)
+unfolding checked number place
+card-fields (refused n p) c = (refl, refl, λ h. (refl, refl, refl))
+card-fields (given u) c = (refl, refl, λ h. absurd (h refl))
+
+card-answers : (v : Verdict) (c : Card) {r : Checked} → Never 0 v → r ≡ checked v c → Says v (r .number) (r .place) × No-card r
+card-answers v c n e = let f = card-fields v c in subst (λ r. Says v (r .number) (r .place) × No-card r) (sym e) (says v n (f .0) (f .1), f .2)
+
+pub check-answers : (s : List ℕ) {r : Checked} → r ≡ checked (own s) (card-of s) → Says (own s) (r .number) (r .place) × No-card r
+check-answers s e = card-answers (own s) (card-of s) (card-numbered s) e
+
+module _ {s : List ℕ} {entry exit : Lists} {r : Checked} (reads : Reads s entry exit r) where
+  pub read-answers : Says (into entry s) (r .number) (r .place) × No-card r
+  read-answers = card-answers (into entry s) (card-of s) (into-numbered entry s) (reads .answer)
+
+  counts : into entry s ≡ accepted → knots (card-of s) ≡ r .knots
+  unfolding checked
+  counts a = sym (ap (λ r. r .knots) (reads .answer ∙ ap (λ v. checked v (card-of s)) a))
+
+  holds : into entry s ≡ accepted → Good quintic (card-of s)
+  holds a = good quintic (card-of s) (accepted-card quintic quintic-head s (taken entry s a .own))
+
+  pub read-spares :
+      Spares (r .number) (r .knots) (entry .minutes) (exit .minutes)
+      × Spares (r .number) (r .knots) (entry .ordinates) (exit .ordinates)
+      × Spares (r .number) (r .knots) (entry .slopes) (exit .slopes)
+      × Spares (r .number) (r .knots) (entry .curvatures) (exit .curvatures)
+  unfolding knots
+  read-spares = (
+    spares _ _ says (reads .minutes) (λ a. (counts a, omega (arith, counts a, taken entry s a .room))),
+    spares _ _ says (reads .ordinates) (λ a. (holds a .ys ∙ counts a, omega (arith, counts a, taken entry s a .room, taken entry s a .ordinates))),
+    spares _ _ says (reads .slopes) (λ a. (holds a .ms ∙ counts a, omega (arith, counts a, taken entry s a .room, taken entry s a .slopes))),
+    spares _ _ says (reads .curvatures) (λ a. (holds a .Ms ∙ counts a, omega (arith, counts a, taken entry s a .room, taken entry s a .curvatures))),
+  )
+    where
+      says : Says (into entry s) (r .number) (r .place)
+      says = read-answers .0
+
+-- ---- the writer
+
+module _ {c : Card} {entry exit : List ℕ} {r : Written} (writes : Writes c entry exit r) where
+  write-fields : (v : Verdict) (k : ℕ) → (let r = written v k in (r .number ≡ number v) × (r .place ≡ place v) × (r .number ≢ 0 → r .bytes ≡ 0))
+  unfolding written number place
+  write-fields (refused n p) k = (refl, refl, λ h. refl)
+  write-fields (given u) k = (refl, refl, λ h. absurd (h refl))
+
+  pub write-answers : Says (write-order quintic c (length entry)) (r .number) (r .place) × (r .number ≢ 0 → r .bytes ≡ 0)
+  write-answers =
+      let v = write-order quintic c (length entry) in
+      let f = write-fields v (size (knots c)) in
+      subst (λ r. Says v (r .number) (r .place) × (r .number ≢ 0 → r .bytes ≡ 0)) (sym (writes .answer)) (says v (write-numbered c (length entry)) (f .0) (f .1), f .2)
+
+  pub long-as-the-card : write-order quintic c (length entry) ≡ accepted → r .bytes ≡ size (knots c)
+  unfolding written
+  long-as-the-card a = ap (λ r. r .bytes) (writes .answer ∙ ap (λ v. written v (size (knots c))) a)
+
+  pub write-spares : Spares (r .number) (r .bytes) entry exit
+  unfolding knots
+  write-spares =
+      spares (bytes-of quintic-head c) entry (write-answers .0) (writes .buffer)
+      (λ a. (length-card quintic-head c ∙ sym (long-as-the-card a), omega (arith, long-as-the-card a, ready-of c (length entry) a .room)))
+
+-- ---- a reading
+
+abbrev pub No-reading : CardReading → Type 0
+No-reading r = r .number ≢ 0 → (r .value ≡ pos 0) × (r .slope ≡ pos 0) × (r .curvature ≡ pos 0)
+
+reading-fields : (v : Answer Reading) → (let r = Lists-answers.answered v in (r .number ≡ number v) × (r .place ≡ place v) × No-reading r)
+unfolding number place
+reading-fields (refused n p) = (refl, refl, λ h. (refl, refl, refl))
+reading-fields (given m) = (refl, refl, λ h. absurd (h refl))
+
+pub reading-answers : (s : List ℕ) (minute : ℕ) {r : CardReading} → r ≡ read-off s minute → Says (reading-order (own s) (card-of s) minute) (r .number) (r .place) × No-reading r
+unfolding read-off
+reading-answers s minute e =
+    let v = reading-order (own s) (card-of s) minute in
+    let f = reading-fields v in
+    subst (λ r. Says v (r .number) (r .place) × No-reading r) (sym e) (says v (reading-numbered s minute) (f .0) (f .1), f .2)

@@ -1,0 +1,97 @@
+-- The page holds: each demand, of every call of the functions of the boundary, by their promises.
+-- Assumes nothing.
+use mathlib.Core.Path.{_≡_, sym, ap, ap₂, subst, _∙_}
+use lib.ListN.{length}
+use Rattle.answer.specs.Answer.{accepted}
+use Rattle.answer.proofs.Never.{given-never}
+use Rattle.curve.specs.Kind.{quintic}
+use Rattle.curve.specs.Card.{knots}
+use Rattle.card_bytes.specs.Bytes.{quintic-head}
+use Rattle.card_bytes.specs.Held.{card-of}
+use Rattle.card_bytes.proofs.RoundTrip.{accepted-card}
+use Rattle.card.specs.Answers.{own, read-off}
+use Rattle.exact_fit.proofs.Solution.{one-exact}
+use Rattle.demands.specs.Calls.{A-fit, A-fit-between, without-ends, between-ends, buffer, A-check, checked-bytes, read-bytes, places, reading-bytes, minute, first-minute, log}
+use Rattle.demands.specs.Demands.{Fit-answers, Room-for, Off, Demand-1, Demand-2, Demand-3, Demands}
+use Rattle.demands.proofs.Numbered.{accepts, codes-numbered}
+use Rattle.demands.proofs.Answered.{mean-answers, fit-answers, check-answers, read-answers, read-spares, write-answers, write-spares, reading-answers}
+use Rattle.demands.proofs.Given.{eliminates, stated}
+use Rattle.demands.proofs.RoundTrip.{written-accepted, written-held, accepts-its-card, takes, reads-its-card, made-again}
+use Rattle.demands.proofs.Off.{stands-on-a-gap, of-card, close, at-knots, written-never, checked-never, read-never, read-off-never}
+
+-- ---- 1
+
+fits : (c : A-fit) → Fit-answers (without-ends c)
+fits c = fit-answers (without-ends c) given-never (c .promised)
+
+fits-between : (c : A-fit-between) → Fit-answers (between-ends c)
+fits-between c = fit-answers (between-ends c) (codes-numbered quintic _ _) (c .promised)
+
+one : Demand-1
+one =
+    record {
+      mean = λ c. mean-answers (first-minute c) (log c) (c .promised) .0;
+      mean-zeros = λ c. mean-answers (first-minute c) (log c) (c .promised) .1;
+      fit = fits;
+      fit-between = fits-between;
+      write = λ c. write-answers (c .promised .0) .0;
+      write-zeros = λ c. write-answers (c .promised .0) .1;
+      write-spares = λ c. write-spares (c .promised .0);
+      check = λ c. check-answers (checked-bytes c) (c .promised .0) .0;
+      check-zeros = λ c. check-answers (checked-bytes c) (c .promised .0) .1;
+      read = λ c. read-answers (c .promised) .0;
+      read-zeros = λ c. read-answers (c .promised) .1;
+      read-spares = λ c. read-spares (c .promised);
+      reading = λ c. reading-answers (reading-bytes c) (minute c) (c .promised) .0;
+      reading-zeros = λ c. reading-answers (reading-bytes c) (minute c) (c .promised) .1;
+    }
+
+-- ---- 2
+
+-- bytes that the card test accepts
+tested : (c : A-check) → c .answer .number ≡ 0 → own (checked-bytes c) ≡ accepted
+tested c zero = accepts (check-answers (checked-bytes c) (c .promised .0) .0) zero
+
+two : Demand-2
+two =
+    record {
+      fit = λ c zero. eliminates (without-ends c) (c .promised) (fits c .says .accepts zero);
+      fit-between = λ c zero. eliminates (between-ends c) (c .promised) (fits-between c .says .accepts zero);
+      mean = λ c zero. stated (first-minute c) (log c) (c .promised) (mean-answers (first-minute c) (log c) (c .promised) .0 .accepts zero);
+      written-is-checked = λ w c zero same.
+          accepts-its-card (checked-bytes c) (written-held (w .promised .0) (w .promised .1) zero same) (c .promised .0) (written-accepted (w .promised .0) (w .promised .1) zero same);
+      written-is-read = λ w r zero same room.
+          let held = written-held (w .promised .0) (w .promised .1) zero same in
+          let taken = takes (r .promised) (written-accepted (w .promised .0) (w .promised .1) zero same) (subst (λ k. Room-for (knots k) (places r)) (sym held) room) in
+          (accepts-its-card (read-bytes r) held (r .promised .answer) taken, reads-its-card (r .promised) taken ∙ held);
+      checked-is-written = λ c r w zero same read-zero again long.
+          made-again (checked-bytes c) (c .promised .1) (tested c zero)
+          (again ∙ reads-its-card (r .promised) (accepts (read-answers (r .promised) .0) read-zero) ∙ ap card-of same) (w .promised .0) long;
+    }
+
+-- ---- 3
+
+off : (c : A-check) → c .answer .number ≡ 0 → Off (checked-bytes c)
+off c zero =
+    let s = checked-bytes c in
+    let a = tested c zero in
+    record {
+      gaps = stands-on-a-gap (card-of s) (accepted-card quintic quintic-head s a);
+      close = λ r same h. close s a (minute r) h (r .promised ∙ ap (λ s. read-off s (minute r)) same);
+      at-knots = λ r same i l there. at-knots s a i l (r .promised ∙ ap₂ read-off same there);
+      jumps = of-card s a .jumps;
+    }
+
+three : Demand-3
+three =
+    record {
+      off = off;
+      write-never-10 = λ c half e. written-never half (length (buffer c)) (sym (one .write c .number) ∙ e);
+      check-never-10 = λ c half e. checked-never (checked-bytes c) half (sym (one .check c .number) ∙ e);
+      read-never-10 = λ c half e. read-never (read-bytes c) half (places c) (sym (one .read c .number) ∙ e);
+      reading-never-10 = λ c half e. read-off-never (reading-bytes c) half (minute c) (sym (one .reading c .number) ∙ e);
+      exact-solution = one-exact;
+    }
+
+pub hold : Demands
+hold = record { one = one; two = two; three = three }

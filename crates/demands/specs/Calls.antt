@@ -1,0 +1,158 @@
+-- Calls of the seven functions of the boundary (crates/kaihveto/src/lib.rt): what a function is called with, what it answers and what it leaves, by its promise as the prover reads it from the
+-- source. What holds of every such call holds of the function. Assumes nothing.
+use Prim.Native.Nat.{ℕ}
+use mathlib.Core.List.{List}
+use lib.IntN.{ℤ}
+use lib.ListN.{length}
+use denote.Ref.{now}
+use Rattle.answer.specs.Answer.{Answer, Verdict, accepted}
+use Rattle.curve.specs.Kind.{quintic}
+use Rattle.curve.specs.Card.{Card}
+use Rattle.curve.specs.Reading.{Reading}
+use Rattle.curve.specs.Steps.{codes}
+use Rattle.knots.specs.Lent.{lent}
+use Rattle.rows.specs.declared.End.{End}
+use Rattle.rows.specs.declared.End.the-variants.{Free}
+use Rattle.ends.specs.Ends.{end-by}
+use Rattle.fit.specs.declared.Fitted.{Fitted}
+use Rattle.fit.specs.Fit.{fit-of}
+use Rattle.card.specs.Promise.{Lists, lists}
+use Rattle.kaihveto.proofs.kaihveto_mean.Reads as mean
+use Rattle.kaihveto.proofs.kaihveto_fit.Reads as fit
+use Rattle.kaihveto.proofs.kaihveto_fit_ends.Reads as fit-ends
+use Rattle.kaihveto.proofs.kaihveto_write.Reads as write
+use Rattle.kaihveto.proofs.kaihveto_check.Reads as check
+use Rattle.kaihveto.proofs.kaihveto_read.Reads as read
+use Rattle.kaihveto.proofs.kaihveto_reading.Reads as reading
+
+-- a call that meets a promise: of lifetimes, arguments, the answer, and the parameters at exit
+pub record Call {K A X S : Type 0} (Post : K → A → X → S → Type 0) : Type 0 where
+  pub lifetimes : K
+  pub arguments : A
+  pub answer : X
+  pub exit : S
+  pub promised : Post lifetimes arguments answer exit
+
+-- ---- kaihveto_mean(minute, log)
+
+abbrev pub A-mean : Type 0
+A-mean = Call mean.Post
+
+abbrev pub first-minute : A-mean → ℕ
+first-minute c = c .arguments .0
+
+abbrev pub log : A-mean → List ℕ
+log c = now (c .arguments .1 .0)
+
+-- ---- kaihveto_fit(minutes, ordinates, slopes, curvatures), kaihveto_fit_ends(.., left, slope, curvature, right, slope, curvature)
+
+abbrev pub A-fit : Type 0
+A-fit = Call fit.Post
+
+abbrev pub A-fit-between : Type 0
+A-fit-between = Call fit-ends.Post
+
+-- what both are: the sheet, the lists lent for slopes and curvatures at entry and at exit, the ends, 15 where they come as code numbers, and the answer
+pub record Fitting : Type 0 where
+  pub minutes : List ℕ
+  pub ordinates : List ℤ
+  pub slopes : List ℤ
+  pub curvatures : List ℤ
+  pub slopes′ : List ℤ
+  pub curvatures′ : List ℤ
+  pub left : End
+  pub right : End
+  pub named : Verdict
+  pub answer : Fitted
+
+-- "A fit asked without ends takes free at both."
+abbrev pub without-ends : A-fit → Fitting
+without-ends c =
+    let a = c .arguments in
+    record {
+      minutes = now (a .0);
+      ordinates = now (a .1 .0);
+      slopes = now (a .1 .1 .0);
+      curvatures = now (a .1 .1 .1 .0);
+      slopes′ = now (c .exit .1 .1 .0);
+      curvatures′ = now (c .exit .1 .1 .1 .0);
+      left = Free;
+      right = Free;
+      named = accepted;
+      answer = c .answer;
+    }
+
+abbrev pub between-ends : A-fit-between → Fitting
+between-ends c =
+    let a = c .arguments in
+    let ends = a .1 .1 .1 .1 in
+    record {
+      minutes = now (a .0);
+      ordinates = now (a .1 .0);
+      slopes = now (a .1 .1 .0);
+      curvatures = now (a .1 .1 .1 .0);
+      slopes′ = now (c .exit .1 .1 .0);
+      curvatures′ = now (c .exit .1 .1 .1 .0);
+      left = end-by (ends .0) (ends .1 .0) (ends .1 .1 .0);
+      right = end-by (ends .1 .1 .1 .0) (ends .1 .1 .1 .1 .0) (ends .1 .1 .1 .1 .1 .0);
+      named = codes quintic (ends .0) (ends .1 .1 .1 .0);
+      answer = c .answer;
+    }
+
+-- document 01's fit of it
+abbrev pub the-fit : Fitting → Answer Card
+the-fit f = fit-of (f .minutes) (f .ordinates) (f .left) (f .right) (length (f .slopes)) (length (f .curvatures)) (f .named)
+
+-- ---- kaihveto_write(minutes, ordinates, slopes, curvatures, left, right, buffer)
+
+abbrev pub A-write : Type 0
+A-write = Call write.Post
+
+-- the card in the lent lists
+abbrev pub written-card : A-write → Card
+written-card c =
+    let a = c .arguments in
+    lent (now (a .0)) (now (a .1 .0)) (now (a .1 .1 .0)) (now (a .1 .1 .1 .0)) (a .1 .1 .1 .1 .0) (a .1 .1 .1 .1 .1 .0)
+
+abbrev pub buffer : A-write → List ℕ
+buffer c = now (c .arguments .1 .1 .1 .1 .1 .1 .0)
+
+abbrev pub buffer′ : A-write → List ℕ
+buffer′ c = now (c .exit .1 .1 .1 .1 .1 .1 .0)
+
+-- ---- kaihveto_check(card)
+
+abbrev pub A-check : Type 0
+A-check = Call check.Post
+
+abbrev pub checked-bytes : A-check → List ℕ
+checked-bytes c = now (c .arguments .0)
+
+-- ---- kaihveto_read(card, minutes, ordinates, slopes, curvatures)
+
+abbrev pub A-read : Type 0
+A-read = Call read.Post
+
+abbrev pub read-bytes : A-read → List ℕ
+read-bytes c = now (c .arguments .0)
+
+abbrev pub places : A-read → Lists
+places c = let a = c .arguments in lists (a .1 .0) (a .1 .1 .0) (a .1 .1 .1 .0) (a .1 .1 .1 .1 .0)
+
+abbrev pub places′ : A-read → Lists
+places′ c = let s = c .exit in lists (s .1 .0) (s .1 .1 .0) (s .1 .1 .1 .0) (s .1 .1 .1 .1 .0)
+
+-- ---- kaihveto_reading(card, minute)
+
+abbrev pub A-reading : Type 0
+A-reading = Call reading.Post
+
+abbrev pub reading-bytes : A-reading → List ℕ
+reading-bytes c = now (c .arguments .0)
+
+abbrev pub minute : A-reading → ℕ
+minute c = c .arguments .1 .0
+
+-- its three numbers
+abbrev pub three : A-reading → Reading
+three c = record { value = c .answer .value; slope = c .answer .slope; curvature = c .answer .curvature }

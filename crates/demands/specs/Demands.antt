@@ -1,0 +1,174 @@
+-- The three demands of README.md on one page, said of the functions of the boundary: `(c : A-check) → ..` speaks of every call of kaihveto_check, whatever it is called with, and so for
+-- the others (specs/Calls). What is cited is document 01 as definitions. proofs/Demands proves it all. Assumes nothing.
+use mathlib.Core.Path.{_≡_}
+use mathlib.Core.Logic.{_≢_}
+use mathlib.Core.List.{List}
+use Prim.Native.Nat.{ℕ, _+_, _-_, _*_, _≤_, _<_}
+use lib.IntN.{ℤ, pos}
+use lib.ListN.{length, take, drop}
+use lib.Dec.{T}
+use Rattle.whole.specs.Whole.{nearest}
+use Rattle.answer.specs.Answer as Answer
+use Rattle.answer.specs.Answer.{Answer, accepted}
+use Rattle.front.specs.Front.{listed}
+use Rattle.curve.specs.Curve.{Order}
+use Rattle.curve.specs.Kind.{quintic, inner}
+use Rattle.curve.specs.Card.{Card, knots, knot}
+use Rattle.curve.specs.Log.{count, sum}
+use Rattle.curve.specs.Log as Log
+use Rattle.curve.specs.Orders.{write-order, reading-order}
+use Rattle.curve.specs.Exact.{Exact, Near}
+use Rattle.curve.specs.Demand.{Close, On-gap, numbers, Jump-within}
+use Rattle.knots.specs.Lent.{lent}
+use Rattle.rows.specs.declared.End.{End}
+use Rattle.numbers.specs.Numbers.{slope-at, curvature-at}
+use Rattle.fit.specs.Fit.{solved}
+use Rattle.exact_fit.specs.Solution.{before-8, OneSolution}
+use Rattle.card_bytes.specs.Held.{card-of}
+use Rattle.card.specs.declared.Checked.{Checked}
+use Rattle.card.specs.Answers.{own}
+use Rattle.card.specs.Promise.{Lists, into}
+use Rattle.demands.specs.Calls.{A-mean, first-minute, log, A-fit, A-fit-between, Fitting, without-ends, between-ends, the-fit, A-write, written-card, buffer, buffer′, A-check, checked-bytes, A-read, read-bytes, places, places′, A-reading, reading-bytes, minute, three}
+
+-- ---- 1. "Every input gets an answer: bad knots, logs, cards and minutes are refused by number and place, the numbers beside a refusal are zero, and lent memory stays untouched."
+
+-- what an order gives, where it gives something
+pub record Is-given {A : Type 0} (order : Answer A) : Type 0 where
+  pub what : A
+  pub is : order ≡ Answer.given what
+
+-- number n and place p are those of an order of document 01, and n is 0 exactly where it accepts
+pub record Says {A : Type 0} (order : Answer A) (n p : ℕ) : Type 0 where
+  pub number : n ≡ Answer.number order
+  pub place : p ≡ Answer.place order
+  pub accepts : n ≡ 0 → Is-given order
+  pub accepted : Is-given order → n ≡ 0
+
+-- a lent list at entry and at exit of a call that answers n: a refusal writes nothing, an acceptance no more than the first k places
+pub record Spares {A : Type 0} (n k : ℕ) (entry exit : List A) : Type 0 where
+  pub refused : n ≢ 0 → exit ≡ entry
+  pub given : n ≡ 0 → (length exit ≡ length entry) × (drop k exit ≡ drop k entry)
+
+-- zeros beside the refusal of a card
+abbrev pub No-card : Checked → Type 0
+No-card r = r .number ≢ 0 → (r .knots ≡ 0) × (r .left ≡ 0) × (r .right ≡ 0)
+
+-- a fit
+pub record Fit-answers (f : Fitting) : Type 0 where
+  pub says : Says (the-fit f) (f .answer .number) (f .answer .place)
+  pub slopes : Spares (f .answer .number) (length (f .minutes)) (f .slopes) (f .slopes′)
+  pub curvatures : Spares (f .answer .number) (length (f .minutes)) (f .curvatures) (f .curvatures′)
+
+pub record Demand-1 : Type 0 where
+  -- the mean of a log: 16, 12, 13
+  pub mean : (c : A-mean) → Says (Log.mean (first-minute c) (log c)) (c .answer .number) (c .answer .place)
+  pub mean-zeros : (c : A-mean) → c .answer .number ≢ 0 → (c .answer .minute ≡ 0) × (c .answer .ordinate ≡ pos 0) × (c .answer .good ≡ 0)
+  -- the fit: 3, 1, 2, 15; per knot 4, 5, 6; 7; 8; 9; 10
+  pub fit : (c : A-fit) → Fit-answers (without-ends c)
+  pub fit-between : (c : A-fit-between) → Fit-answers (between-ends c)
+  -- the writer: 3, 1, 2, 15; per knot 4, 5, 6; 9; 10; 26
+  pub write : (c : A-write) → Says (write-order quintic (written-card c) (length (buffer c))) (c .answer .number) (c .answer .place)
+  pub write-zeros : (c : A-write) → c .answer .number ≢ 0 → c .answer .bytes ≡ 0
+  pub write-spares : (c : A-write) → Spares (c .answer .number) (c .answer .bytes) (buffer c) (buffer′ c)
+  -- the card: head 14; 1, 2; 15; the other records 14; per knot 4, 5, 6; 9; 10
+  pub check : (c : A-check) → Says (own (checked-bytes c)) (c .answer .number) (c .answer .place)
+  pub check-zeros : (c : A-check) → No-card (c .answer)
+  -- the card into lent lists: 3, the card's, 26
+  pub read : (c : A-read) → Says (into (places c) (read-bytes c)) (c .answer .number) (c .answer .place)
+  pub read-zeros : (c : A-read) → No-card (c .answer)
+  pub read-spares : (c : A-read) →
+      Spares (c .answer .number) (c .answer .knots) (places c .minutes) (places′ c .minutes)
+      × Spares (c .answer .number) (c .answer .knots) (places c .ordinates) (places′ c .ordinates)
+      × Spares (c .answer .number) (c .answer .knots) (places c .slopes) (places′ c .slopes)
+      × Spares (c .answer .number) (c .answer .knots) (places c .curvatures) (places′ c .curvatures)
+  -- a reading: the card's, then 11
+  pub reading : (c : A-reading) → Says (reading-order (own (reading-bytes c)) (card-of (reading-bytes c)) (minute c)) (c .answer .number) (c .answer .place)
+  pub reading-zeros : (c : A-reading) → c .answer .number ≢ 0 → (c .answer .value ≡ pos 0) × (c .answer .slope ≡ pos 0) × (c .answer .curvature ≡ pos 0)
+
+-- ---- 2. "The fit is exactly the elimination that the paper prescribes, each operation rounded once; logs give the stated mean; writing a sound card and reading it returns it, and
+-- accepted bytes are those that the writer makes."
+
+-- the pairs of the elimination, which is defined over binary64 with one rounding an operation, in card units
+pub record Eliminates (f : Fitting) : Type 0 where
+  pub slopes : f .slopes′ ≡ listed (slope-at (solved (f .minutes) (f .ordinates) (f .left) (f .right) .pairs)) (length (f .minutes))
+  pub curvatures : f .curvatures′ ≡ listed (curvature-at (solved (f .minutes) (f .ordinates) (f .left) (f .right) .pairs)) (length (f .minutes))
+
+-- an acceptance that gives the count of a card's knots and its codes
+pub record Accepts-as (card : Card) (r : Checked) : Type 0 where
+  pub number : r .number ≡ 0
+  pub knots : r .knots ≡ knots card
+  pub left : r .left ≡ card .left
+  pub right : r .right ≡ card .right
+
+-- four lists of one length with room for n places
+pub record Room-for (n : ℕ) (l : Lists) : Type 0 where
+  pub minutes : n ≤ length (l .minutes)
+  pub ordinates : length (l .ordinates) ≡ length (l .minutes)
+  pub slopes : length (l .slopes) ≡ length (l .minutes)
+  pub curvatures : length (l .curvatures) ≡ length (l .minutes)
+
+-- the card at the front of four lists, n places long
+abbrev pub front : ℕ → Lists → (left right : ℕ) → Card
+front n l left right = lent (take n (l .minutes)) (take n (l .ordinates)) (take n (l .slopes)) (take n (l .curvatures)) left right
+
+-- the bytes that were written
+abbrev pub written-bytes : A-write → List ℕ
+written-bytes w = take (w .answer .bytes) (buffer′ w)
+
+pub record Demand-2 : Type 0 where
+  pub fit : (c : A-fit) → c .answer .number ≡ 0 → Eliminates (without-ends c)
+  pub fit-between : (c : A-fit-between) → c .answer .number ≡ 0 → Eliminates (between-ends c)
+  -- "50 × sum ÷ count over the good bytes, rounded to nearest, ties to even; the count of good bytes is returned with it", at "the log's first minute"
+  pub mean : (c : A-mean) → c .answer .number ≡ 0 →
+      (c .answer .minute ≡ first-minute c) × (c .answer .ordinate ≡ nearest (pos (50 * sum (log c))) (count (log c))) × (c .answer .good ≡ count (log c))
+  -- what was written is accepted, and read back as it was
+  pub written-is-checked : (w : A-write) (c : A-check) → w .answer .number ≡ 0 → checked-bytes c ≡ written-bytes w → Accepts-as (written-card w) (c .answer)
+  pub written-is-read : (w : A-write) (r : A-read) → w .answer .number ≡ 0 → read-bytes r ≡ written-bytes w → Room-for (knots (written-card w)) (places r) →
+      Accepts-as (written-card w) (r .answer) × (front (r .answer .knots) (places′ r) (r .answer .left) (r .answer .right) ≡ written-card w)
+  -- of bytes that are accepted, the writer makes the same of what the reader gives
+  pub checked-is-written : (c : A-check) (r : A-read) (w : A-write) → c .answer .number ≡ 0
+      → read-bytes r ≡ checked-bytes c → r .answer .number ≡ 0
+      → written-card w ≡ front (r .answer .knots) (places′ r) (r .answer .left) (r .answer .right) → length (checked-bytes c) ≤ length (buffer w)
+      → (w .answer .number ≡ 0) × (written-bytes w ≡ checked-bytes c)
+
+-- ---- 3. "Off any accepted card, at any whole minute of it, the value is within half a hundredth and slope and curvature within half a card unit of the exact curve; at knots they are the
+-- card's own; third and fourth derivatives jump by no more than is allowed, whoever wrote the card; and no card within half a unit of an exact solution is refused for a jump."
+
+-- from the first knot to the last
+abbrev pub On-the-card : Card → ℕ → Type 0
+On-the-card card m = (knot card 0 .x ≤ m) × (m ≤ knot card (knots card - 1) .x)
+
+-- a gap on which a minute stands
+pub record A-gap (card : Card) (m : ℕ) : Type 0 where
+  pub left-knot : ℕ
+  pub minutes : ℕ
+  pub on : On-gap card m left-knot minutes
+
+-- of bytes, and the card that they hold
+pub record Off (s : List ℕ) : Type 0 where
+  pub gaps : (m : ℕ) → On-the-card (card-of s) m → A-gap (card-of s) m
+  pub close : (r : A-reading) → reading-bytes r ≡ s → On-the-card (card-of s) (minute r) →
+      (r .answer .number ≡ 0) × ((i t : ℕ) → On-gap (card-of s) (minute r) i t → Close (knot (card-of s) i) (knot (card-of s) (i + 1)) t (three r))
+  pub at-knots : (r : A-reading) → reading-bytes r ≡ s → (i : ℕ) → i < knots (card-of s) → minute r ≡ knot (card-of s) i .x →
+      (r .answer .number ≡ 0) × (three r ≡ numbers (knot (card-of s) i))
+  pub jumps : (i : ℕ) → i + 2 < knots (card-of s) → (o : Order) → T (quintic .asks inner o) →
+      Jump-within quintic o (knot (card-of s) i) (knot (card-of s) (i + 1)) (knot (card-of s) (i + 2))
+
+-- within half a unit of an exact solution
+pub record Half-a-unit (card : Card) : Type 0 where
+  pub exact : Exact quintic card
+  pub near : Near exact
+
+pub record Demand-3 : Type 0 where
+  pub off : (c : A-check) → c .answer .number ≡ 0 → Off (checked-bytes c)
+  pub write-never-10 : (c : A-write) → Half-a-unit (written-card c) → c .answer .number ≢ 10
+  pub check-never-10 : (c : A-check) → Half-a-unit (card-of (checked-bytes c)) → c .answer .number ≢ 10
+  pub read-never-10 : (c : A-read) → Half-a-unit (card-of (read-bytes c)) → c .answer .number ≢ 10
+  pub reading-never-10 : (c : A-reading) → Half-a-unit (card-of (reading-bytes c)) → c .answer .number ≢ 10
+  -- and there is one for every sheet that a fit takes up: the exact solution between the fit's own ends, rounded to card units
+  pub exact-solution : (minutes : List ℕ) (ordinates : List ℤ) (left right : End) → before-8 minutes ordinates left right ≡ accepted → OneSolution minutes ordinates left right
+
+pub record Demands : Type 0 where
+  pub one : Demand-1
+  pub two : Demand-2
+  pub three : Demand-3
