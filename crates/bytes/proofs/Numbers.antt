@@ -23,6 +23,21 @@ un-lt (b ∷ bs) h =
     let p : un bs < 256 ^ length bs = un-lt bs (λ i. h (suc i)) in
     rw pow-suc (omega (arith, h 0))
 
+-- ---- bytes
+
+pub bytes-append : (s t : List ℕ) → Bytes s → Bytes t → Bytes (s ++ t)
+unfolding Bytes
+bytes-append [] t h k i = k i
+bytes-append (b ∷ s) t h k zero = h 0
+bytes-append (b ∷ s) t h k (suc i) = bytes-append s t (λ j. h (suc j)) k i
+
+-- what a number is written as
+pub le-bytes : (k n : ℕ) → Bytes (le k n)
+unfolding le Bytes
+le-bytes zero n i = omega arith
+le-bytes (suc k) n zero = omega arith
+le-bytes (suc k) n (suc i) = le-bytes k (n / 256) i
+
 -- ---- there and back
 
 pub un-le : (k n : ℕ) → n < 256 ^ k → un (le k n) ≡ n

@@ -4,3 +4,6 @@ pub mod RoundTrip
 pub mod Off
 pub mod Given
 pub mod Demands
+pub mod FitToCard
+pub mod Written
+pub mod Examples

@@ -48,7 +48,7 @@ everywhere l most h i = elim (decLt i (length l)) [ yes p ↦ h i p | no p ↦ b
     behind e = rw e (omega arith)
 
 -- the numbers of an accepted card are of their types
-typed : (c : Card) → verdict quintic c ≡ accepted → Minutes (c .minutes) → Numbers c
+pub typed : (c : Card) → verdict quintic c ≡ accepted → Minutes (c .minutes) → Numbers c
 unfolding knots knot quintic beyond Minutes
 typed c e x =
     record {
