@@ -187,7 +187,7 @@ function ask(word,    x, y, m, c) {
         lists_record(fit_codes, lent("minutes", x, 2) lent("ordinates", y, 2) sevens(m, 4) sevens(c, 4) quotient(value["left", 1]) quotient(value["left", 2]) quotient(value["right", 1]) quotient(value["right", 2]))
     else if (word == "write")
         lists_record(write, lent("minutes", x, 2) lent("ordinates", y, 2) lent("slopes", m, 4) lent("curvatures", c, 4) sevens(number("room", 14 + 16 * count["minutes"]), 1))
-    else if (word == "read") lists_record(read, card())
+    else if (word == "read") lists_record(read, sevens(x, 2) sevens(y, 2) sevens(m, 4) sevens(c, 4) card())
     else fail("nothing is asked by " word)
 }
 

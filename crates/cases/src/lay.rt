@@ -1,5 +1,6 @@
 // A record's body taken apart into what is lent to the library: six numbers of two bytes, then minutes, ordinates, slopes and curvatures, then bytes.
 use crate::ask;
+ghost use mathlib.Core.Path.{_≡_};
 ghost use Prim.Native.Nat.{_+_, _≤_};
 ghost use lib.ListN.{length};
 
@@ -12,89 +13,89 @@ fn places(body: &[u8], at: usize) -> usize
     if places <= 66 { places } else { 66 }
 }
 
-// Each fills a list from an offset on, and answers the offset behind it.
-fn minutes(body: &[u8], from: usize, list: &mut [u16]) -> usize
-    requires { ⌜ from ≤ length (now body) ⌝ }
-    ensures { λ r. ⌜ r ≤ length (now (body .entry)) ⌝ }
+// Each reads 66 places from an offset on, as far as the body goes.
+fn minutes(body: &[u8], from: usize) -> [u16; 66]
+    requires { ⌜ from ≤ 1000 ⌝ }
+    ensures { λ r. ⌜ 66 ≡ length r ⌝ }
 {
+    let mut list = [0u16; 66];
     let mut at = from;
     let mut i: usize = 0;
-    while i < list.len() {
-        if body.len() - at < 2 {
-            return at;
+    while i < 66 {
+        if body.len() < at + 2 {
+            return list;
         }
         list[i] = bytes::read_u16(body, at);
         at += 2;
         i += 1;
     }
-    at
+    list
 }
 
-fn ordinates(body: &[u8], from: usize, list: &mut [i16]) -> usize
-    requires { ⌜ from ≤ length (now body) ⌝ }
-    ensures { λ r. ⌜ r ≤ length (now (body .entry)) ⌝ }
+fn ordinates(body: &[u8], from: usize) -> [i16; 66]
+    requires { ⌜ from ≤ 1000 ⌝ }
+    ensures { λ r. ⌜ 66 ≡ length r ⌝ }
 {
+    let mut list = [0i16; 66];
     let mut at = from;
     let mut i: usize = 0;
-    while i < list.len() {
-        if body.len() - at < 2 {
-            return at;
+    while i < 66 {
+        if body.len() < at + 2 {
+            return list;
         }
         list[i] = bytes::read_i16(body, at);
         at += 2;
         i += 1;
     }
-    at
+    list
 }
 
-fn numbers(body: &[u8], from: usize, list: &mut [i32]) -> usize
-    requires { ⌜ from ≤ length (now body) ⌝ }
-    ensures { λ r. ⌜ r ≤ length (now (body .entry)) ⌝ }
+fn numbers(body: &[u8], from: usize) -> [i32; 66]
+    requires { ⌜ from ≤ 1000 ⌝ }
+    ensures { λ r. ⌜ 66 ≡ length r ⌝ }
 {
+    let mut list = [0i32; 66];
     let mut at = from;
     let mut i: usize = 0;
-    while i < list.len() {
-        if body.len() - at < 4 {
-            return at;
+    while i < 66 {
+        if body.len() < at + 4 {
+            return list;
         }
         list[i] = bytes::read_i32(body, at);
         at += 4;
         i += 1;
     }
-    at
-}
-
-fn lent(kind: u16, body: &mut [u8], x: &mut [u16], y: &mut [i16], m: &mut [i32], c: &mut [i32])
-    requires { ⌜ 12 ≤ length (now body) ⌝ }
-{
-    let left = bytes::read_u16(body, 8);
-    let right = bytes::read_u16(body, 10);
-    let behind_minutes = minutes(body, 12, x);
-    let behind_ordinates = ordinates(body, behind_minutes, y);
-    let behind_slopes = numbers(body, behind_ordinates, m);
-    let rest = numbers(body, behind_slopes, c);
-    ask::of_knots(kind, left, right, x, y, m, c, &mut body[rest..]);
+    list
 }
 
 pub(crate) fn question(kind: u16, body: &mut [u8]) {
     if body.len() < 12 {
         return;
     }
+    let left = bytes::read_u16(body, 8);
     if kind < 4 {
-        ask::of_bytes(kind, bytes::read_u16(body, 8), &body[12..]);
+        ask::of_bytes(kind, left, &body[12..]);
         return;
     }
+    let right = bytes::read_u16(body, 10);
     let x = places(body, 0);
     let y = places(body, 2);
     let m = places(body, 4);
     let c = places(body, 6);
-    let mut minutes = [7u16; 66];
-    let mut ordinates = [7i16; 66];
-    let mut slopes = [7i32; 66];
-    let mut curvatures = [7i32; 66];
+    let behind_minutes = 12 + 2 * x;
+    let behind_ordinates = behind_minutes + 2 * y;
+    let behind_slopes = behind_ordinates + 4 * m;
+    let rest = behind_slopes + 4 * c;
+    if body.len() < rest {
+        return;
+    }
+    let mut minutes = minutes(body, 12);
+    let mut ordinates = ordinates(body, behind_minutes);
+    let mut slopes = numbers(body, behind_ordinates);
+    let mut curvatures = numbers(body, behind_slopes);
     if kind == 7 {
         ask::read(
-            &body[12..],
+            &body[rest..],
             &mut minutes[..x],
             &mut ordinates[..y],
             &mut slopes[..m],
@@ -102,12 +103,14 @@ pub(crate) fn question(kind: u16, body: &mut [u8]) {
         );
         return;
     }
-    lent(
+    ask::of_knots(
         kind,
-        body,
-        &mut minutes[..x],
-        &mut ordinates[..y],
+        left,
+        right,
+        &minutes[..x],
+        &ordinates[..y],
         &mut slopes[..m],
         &mut curvatures[..c],
+        &mut body[rest..],
     );
 }
