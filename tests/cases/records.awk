@@ -166,7 +166,8 @@ function card(    text, i, n) {
 
 function record(kind, x, y, m, c, left, right, rest,    body) {
     body = little(x, 2) little(y, 2) little(m, 2) little(c, 2) little(left, 2) little(right, 2) rest
-    if (!failed) print little(length(body) / 4, 2) little(kind, 2) body
+    if (length(body) > 4 * 4096) fail("the program reads at most 4096 bytes of a question")
+    print little(length(body) / 4, 2) little(kind, 2) body
 }
 
 function bytes_record(kind, minute, bytes) {

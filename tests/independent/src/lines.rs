@@ -6,7 +6,7 @@ use std::collections::BTreeMap;
 use std::fmt::{Display, Write as _};
 use std::str::FromStr;
 
-/// What the lines above have said: a label's fields, each as its words.
+/// A line's fields, each as its words.
 type Fields = BTreeMap<String, Vec<String>>;
 
 const NAMES: [&str; 13] =
@@ -14,6 +14,10 @@ const NAMES: [&str; 13] =
 
 fn parse<T: FromStr>(word: &str) -> Result<T, String> {
     word.parse().map_err(|_| format!("{word} is no number here"))
+}
+
+fn hexadecimal(word: &str) -> Result<u8, String> {
+    u8::from_str_radix(word, 16).map_err(|_| format!("{word} is no byte in hexadecimal"))
 }
 
 /// The words that 7*3 or 0..3 stands for.
@@ -84,7 +88,7 @@ impl Asked {
         let ends = so_many(fields, "ends", parse)?;
         let [left, right] = ends.unwrap_or([0, 0]);
         let mut card = match fields.get("bytes") {
-            Some(words) => words.iter().map(|word| u8::from_str_radix(word, 16).map_err(|error| error.to_string())).collect::<Result<_, _>>()?,
+            Some(words) => words.iter().map(|word| hexadecimal(word)).collect::<Result<_, _>>()?,
             None => card_bytes(&minutes, &ordinates, &slopes, &curvatures, left, right),
         };
         if let Some([length]) = so_many(fields, "length", parse)? {
@@ -151,7 +155,11 @@ impl Asked {
         let [x, y, m, c] = self.places;
         let (mut minutes, mut ordinates, mut slopes, mut curvatures) = (vec![7; x], vec![7; y], vec![7; m], vec![7; c]);
         let answer = read(&self.card, &mut minutes, &mut ordinates, &mut slopes, &mut curvatures);
-        head(&answer) + &shown("minutes", &minutes) + &shown("ordinates", &ordinates) + &shown("slopes", &slopes) + &shown("curvatures", &curvatures)
+        head(&answer)
+            + &shown("minutes", &minutes)
+            + &shown("ordinates", &ordinates)
+            + &shown("slopes", &slopes)
+            + &shown("curvatures", &curvatures)
     }
 
     fn reading(&self) -> String {
