@@ -7,7 +7,8 @@ use lib.Dec.{ltb}
 use lib.Ieee.{Float}
 use Rattle.rows.specs.declared.End.{End}
 use Rattle.rows.specs.declared.End.the-variants.{Free, Both, Curvature}
-use Rattle.ends.specs.Ends.{code, end-by}
+use Rattle.rows.specs.Equations.{code}
+use Rattle.ends.specs.Ends.{end-by}
 
 pub code-known : (end : End) → ltb 2 (code end) ≡ false
 code-known Free = refl

@@ -13,12 +13,6 @@ use Rattle.elimination.specs.Refusal.{is-finite}
 
 -- ---- codes
 
--- "code 0, free"; "code 1, slope and curvature given"; "code 2, curvature alone given"
-abbrev pub code : End → ℕ
-code Free = 0
-code (Both slope curvature) = 1
-code (Curvature curvature) = 2
-
 -- the end that a code number asks, with the numbers that come beside it; free for a code that 15 refuses
 unfoldable pub end-by : ℕ → Float → Float → End
 end-by number slope curvature = cond (eqb number 1) (Both slope curvature) (cond (eqb number 2) (Curvature curvature) Free)

@@ -2,7 +2,8 @@
 ghost use mathlib.Core.Path.{_≡_};
 ghost use Prim.Native.Nat.{_^_, _≤_, _<_};
 ghost use Rattle.answer.specs.Judge.{verdict-of};
-ghost use Rattle.ends.specs.Ends.{code, end-by, unfit, unfit-end, ends};
+ghost use Rattle.rows.specs.Equations.{code};
+ghost use Rattle.ends.specs.Ends.{end-by, unfit, unfit-end, ends};
 use rows::End;
 
 const GIVEN: f64 = 256.0;

@@ -15,7 +15,8 @@ use Rattle.curve.specs.Orders.{sound, verdict, fit-order}
 use Rattle.curve.proofs.Accepted.{same-lengths}
 use Rattle.rows.specs.declared.End.{End}
 use Rattle.front.proofs.Listed.{length-listed}
-use Rattle.ends.specs.Ends.{code, end-by}
+use Rattle.rows.specs.Equations.{code}
+use Rattle.ends.specs.Ends.{end-by}
 use Rattle.ends.proofs.Codes.{code-known, code-asked}
 use Rattle.numbers.specs.Numbers.{slope-at, curvature-at}
 use Rattle.fit.specs.Fit.{solved, card-of, fit-of, fit-codes}

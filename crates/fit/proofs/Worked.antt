@@ -16,7 +16,7 @@ use Rattle.elimination.specs.Elimination.{backward}
 use Rattle.passes.specs.declared.Solved.{Solved}
 use Rattle.passes.specs.Sheet.{knot-at}
 use Rattle.passes.specs.Passes.{passes}
-use Rattle.ends.specs.Ends.{code}
+use Rattle.rows.specs.Equations.{code}
 use Rattle.numbers.specs.declared.Numbers.{Numbers}
 use Rattle.numbers.specs.Numbers.{slope-at, curvature-at, scaled}
 use Rattle.fit.specs.Fit.{tested, solved, eliminated, card-of}

@@ -14,12 +14,13 @@ use Rattle.curve.specs.Orders.{numbers-sound, fit-order}
 use Rattle.knots.specs.Lent.{lent}
 use Rattle.rows.specs.declared.End.{End}
 use Rattle.rows.specs.declared.End.the-variants.{Free}
+use Rattle.rows.specs.Equations.{code}
 use Rattle.elimination.specs.Elimination.{backward}
 use Rattle.passes.specs.declared.Solved.{Solved}
 use Rattle.passes.specs.Sheet.{knot-at}
 use Rattle.front.specs.Front.{listed}
 use Rattle.passes.specs.Passes.{passes}
-use Rattle.ends.specs.Ends.{code, end-by, ends}
+use Rattle.ends.specs.Ends.{end-by, ends}
 use Rattle.numbers.specs.Numbers.{slope-at, curvature-at}
 
 -- a card, where 9 and 10 accept it

@@ -10,7 +10,7 @@ use Rattle.curve.specs.Card.{Card}
 use Rattle.knots.specs.Lent.{lent}
 use Rattle.rows.specs.declared.End.{End}
 use Rattle.passes.specs.Sheet.{most}
-use Rattle.ends.specs.Ends.{code}
+use Rattle.rows.specs.Equations.{code}
 use Rattle.numbers.specs.declared.Numbers.{Numbers}
 use Rattle.fit.specs.declared.Fitted.{Fitted}
 

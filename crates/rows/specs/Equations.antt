@@ -1,8 +1,8 @@
 -- A knot's two equations in binary64, after document 01's "The equations" and the first paragraph of "The elimination":
--- the powers of a gap, the matrices A, L and R, the right side k, and the rows that an end replaces. Assumes nothing.
-use Prim.Native.Nat.{ℕ}
+-- the powers of a gap, and the rows of `coefficients` at them, with those that an end replaces. Assumes nothing.
+use Prim.Native.Nat.{ℕ, zero, suc}
 use lib.IntN.{ℤ, pos, _-ℤ_}
-use lib.Ieee.{Float, binary64, ofInt, neg}
+use lib.Ieee.{Float, binary64, ofInt}
 use Rattle.rows.specs.declared.Pair.{Pair}
 use Rattle.rows.specs.declared.Block.{Block}
 use Rattle.rows.specs.declared.Powers.{Powers}
@@ -10,7 +10,9 @@ use Rattle.rows.specs.declared.Gap.{Gap}
 use Rattle.rows.specs.declared.Row.{Row}
 use Rattle.rows.specs.declared.End.{End}
 use Rattle.rows.specs.declared.End.the-variants.{Free, Both, Curvature}
-use Rattle.rows.specs.Floats.{_⊕_, _⊖_, _⊗_, _⊘_, f0, f1, f3, f8, f12, f20, f56, f64, f120, f-8}
+use Rattle.coefficients.specs.Coefficients
+use Rattle.coefficients.specs.Coefficients.{Matrix, Column, Rows, matrix, column}
+use Rattle.rows.specs.Floats.{_⊗_, _⊘_, f0, f1, floats}
 
 -- (slope, curvature); also a right side or a column
 abbrev pub pair : Float → Float → Pair
@@ -45,45 +47,56 @@ gap h y next = record { powers = powers (one-over h); rise = difference y next }
 unfoldable pub no-gap : Gap
 no-gap = record { powers = powers f0; rise = f0 }
 
--- ---- rows
+-- ---- rows: those of `coefficients`, in binary64
 
--- (64·(p3+g3), 12·(g2−p2)) and (12·(g2−p2), 3·(p+g))
-abbrev pub A : Powers → Powers → Block
-A p g = block (f64 ⊗ (p .g3 ⊕ g .g3)) (f12 ⊗ (g .g2 ⊖ p .g2)) (f12 ⊗ (g .g2 ⊖ p .g2)) (f3 ⊗ (p .g ⊕ g .g))
+-- `at g 3` is the document's g3
+abbrev pub at : Powers → ℕ → Float
+at x zero = f1
+at x (suc zero) = x .g
+at x (suc (suc zero)) = x .g2
+at x (suc (suc (suc zero))) = x .g3
+at x (suc (suc (suc (suc n)))) = x .g4
 
--- (56·p3, 8·p2) and ((−8)·p2, −p)
-abbrev pub L : Powers → Block
-L p = block (f56 ⊗ p .g3) (f8 ⊗ p .g2) (f-8 ⊗ p .g2) (neg (p .g))
+abbrev pub block-of : Matrix Float → Block
+block-of m = block (m .e11) (m .e12) (m .e21) (m .e22)
 
--- (56·g3, (−8)·g2) and (8·g2, −g)
-abbrev pub R : Powers → Block
-R g = block (f56 ⊗ g .g3) (f-8 ⊗ g .g2) (f8 ⊗ g .g2) (neg (g .g))
-
--- (120·(g4·D+p4·E), 20·(g3·D−p3·E))
-abbrev pub right-side : Powers → Float → Powers → Float → Pair
-right-side p E g D = pair (f120 ⊗ (g .g4 ⊗ D ⊕ p .g4 ⊗ E)) (f20 ⊗ (g .g3 ⊗ D ⊖ p .g3 ⊗ E))
+abbrev pub row-of : Rows Float → Row
+row-of x = record { a = block-of (x .a); l = block-of (x .l); r = block-of (x .r); k = pair (x .k .s) (x .k .c) }
 
 abbrev pub row : Powers → Float → Powers → Float → Row
-row p E g D = record { a = A p g; l = L p; r = R g; k = right-side p E g D }
+row p E g D = row-of (Coefficients.rows floats (at p) E (at g) D)
 
 -- ---- ends
 
--- the third-derivative row is the second
+abbrev pub matrix-of : Block → Matrix Float
+matrix-of m = matrix (m .e11) (m .e12) (m .e21) (m .e22)
+
+abbrev pub rows-of : Row → Rows Float
+rows-of x = record { a = matrix-of (x .a); l = matrix-of (x .l); r = matrix-of (x .r); k = column (x .k .s) (x .k .c) }
+
 abbrev pub second : Block → Float → Float → Block
-second m e21 e22 = block (m .e11) (m .e12) e21 e22
+second m e21 e22 = block-of (Coefficients.second (matrix-of m) e21 e22)
 
--- code 1 replaces both rows by s = given and c = given: 0 and 1 in A, zeros in L and R, the given number in k
 abbrev pub both-given : Float → Float → Row
-both-given s c = record { a = block f1 f0 f0 f1; l = zeros; r = zeros; k = pair s c }
+both-given s c = row-of (Coefficients.both-given floats s c)
 
--- code 2 replaces the third-derivative row by c = given
 abbrev pub curvature-given : Row → Float → Row
-curvature-given x c = record { a = second (x .a) f0 f1; l = second (x .l) f0 f0; r = second (x .r) f0 f0; k = pair (x .k .s) c }
+curvature-given x c = row-of (Coefficients.curvature-given floats (rows-of x) c)
+
+-- "code 0, free"; "code 1, slope and curvature given"; "code 2, curvature alone given"
+abbrev pub code : End → ℕ
+code Free = 0
+code (Both slope curvature) = 1
+code (Curvature curvature) = 2
+
+-- the numbers that an end gives, zeros for those that it does not
+abbrev pub given : End → Column Float
+given Free = column f0 f0
+given (Both slope curvature) = column slope curvature
+given (Curvature curvature) = column f0 curvature
 
 abbrev pub replaced : Row → End → Row
-replaced x Free = x
-replaced x (Both s c) = both-given s c
-replaced x (Curvature c) = curvature-given x c
+replaced x end = row-of (Coefficients.replaced floats (code end) (given end) (rows-of x))
 
 -- the equations of a knot with these gaps on its left and right; an inner knot keeps both rows, as a free end does
 unfoldable pub equations : Gap → Gap → End → Row

@@ -1,10 +1,10 @@
 -- The operations and the numbers of document 01's "The elimination, rounded once per operation". Assumes nothing.
--- A number is written by its bit pattern, as the code has it; `numbers` computes that each pattern is its number.
+-- A number is written by its bit pattern, as the code has it; `numbers` computes that each pattern is the number of the exact equations.
 use mathlib.Core.Path.{_≡_, refl}
-use mathlib.Core.List.{[], _∷_, map}
-use lib.IntN.{pos, negsuc}
+use mathlib.Core.List.{map}
 use lib.Ieee as Ieee
 use lib.Ieee.{Float, binary64, ofBits, ofInt, neg}
+use Rattle.coefficients.specs.Coefficients.{Arithmetic, exact, listed}
 
 infixl 60 _⊕_
 infixl 60 _⊖_
@@ -49,10 +49,25 @@ f64 = ofBits binary64 0x4050_0000_0000_0000
 abbrev pub f120 : Float
 f120 = ofBits binary64 0x405e_0000_0000_0000
 
-abbrev pub f-8 : Float
-f-8 = neg f8
+-- the arithmetic of binary64
+abbrev pub floats : Arithmetic Float
+floats =
+    record {
+      _⊕_ = _⊕_;
+      _⊖_ = _⊖_;
+      _⊗_ = _⊗_;
+      minus = neg;
+      n0 = f0;
+      n1 = f1;
+      n3 = f3;
+      n8 = f8;
+      n12 = f12;
+      n20 = f20;
+      n56 = f56;
+      n64 = f64;
+      n120 = f120;
+    }
 
-pub numbers : (f0 ∷ f1 ∷ f3 ∷ f8 ∷ f12 ∷ f20 ∷ f56 ∷ f64 ∷ f120 ∷ f-8 ∷ [])
-    ≡ map (ofInt binary64) (pos 0 ∷ pos 1 ∷ pos 3 ∷ pos 8 ∷ pos 12 ∷ pos 20 ∷ pos 56 ∷ pos 64 ∷ pos 120 ∷ negsuc 7 ∷ [])
-unfolding ofBits ofInt neg
+pub numbers : listed floats ≡ map (ofInt binary64) (listed exact)
+unfolding ofBits ofInt
 numbers = refl

@@ -21,7 +21,7 @@ row-of-curvature-requires : tie.Need-row-of-curvature-requires
 row-of-curvature-requires c κs = search needs
 
 returns : tie.Need-returns
-returns c = search needs
+returns c = sym (ap (replaced (c .before .before .args .row)) (c .enum-told .given .1))
 
 returns-2 : tie.Need-returns-2
 returns-2 c = c .row-of-both .ensures ∙ sym (ap (replaced (c .before .before .before .before .args .row)) (c .before .before .end .given .1))
