@@ -1,5 +1,6 @@
 -- Number 8 of document 01's "Numbers of refusal" at one knot: determinant zero or not finite, or an entry of H, P or a
 -- pair not finite. Assumes nothing.
+use Prim.Native.Nat.{ℕ}
 use mathlib.Core.Bool.{Bool, true, false, _&&_, cond}
 use lib.Ieee.{Float, nan, inf, fin, ne}
 use Rattle.rows.specs.declared.Pair.{Pair}
@@ -10,7 +11,7 @@ use Rattle.elimination.specs.declared.State.{State}
 use Rattle.elimination.specs.declared.Step.{Step}
 use Rattle.elimination.specs.declared.Step.the-variants.{Went, Stuck}
 use Rattle.rows.specs.Floats.{f0}
-use Rattle.elimination.specs.Elimination.{system, det, state}
+use Rattle.elimination.specs.Elimination.{system, det, state, zero-state}
 
 -- neither an infinity nor a NaN
 abbrev pub is-finite : Float → Bool
@@ -42,3 +43,13 @@ solved y r last = judged (det (y .s)) (state y (det (y .s)) r last)
 -- a knot with these equations, once the knot before is eliminated
 unfoldable pub eliminated : Row → State → Bool → Bool → Step
 eliminated x before first last = solved (system x before first) (x .r) last
+
+-- ---- a step in the paper's number and values: 0 with H and P, or 8 with zeros
+
+abbrev pub number-of-step : Step → ℕ
+number-of-step (Went x) = 0
+number-of-step Stuck = 8
+
+abbrev pub left-by-step : Step → State
+left-by-step (Went x) = x
+left-by-step Stuck = zero-state

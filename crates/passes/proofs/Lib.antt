@@ -1,3 +1,4 @@
 pub mod Runs
 pub mod Backs
 pub mod Answers
+pub mod Cases

@@ -9,6 +9,7 @@ use Rattle.elimination.specs.declared.Step.{Step}
 use Rattle.elimination.specs.declared.Step.the-variants.{Went, Stuck}
 use Rattle.rows.specs.Equations.{pair, block}
 use Rattle.elimination.specs.Elimination.{zero-state}
+use Rattle.elimination.specs.Refusal.{number-of-step, left-by-step}
 use Rattle.passes.specs.declared.Forward.{Forward}
 
 -- how far elimination has come: with what it left of the knot before, or stuck at a knot
@@ -21,12 +22,12 @@ landed i (Went x) = going x
 landed i Stuck = stuck i
 
 abbrev pub left-by : Run → State
-left-by (going x) = x
-left-by (stuck i) = zero-state
+left-by (going x) = left-by-step (Went x)
+left-by (stuck i) = left-by-step Stuck
 
 abbrev pub number-of : Run → ℕ
-number-of (going x) = 0
-number-of (stuck i) = 8
+number-of (going x) = number-of-step (Went x)
+number-of (stuck i) = number-of-step Stuck
 
 abbrev pub place-of : Run → ℕ
 place-of (going x) = 0

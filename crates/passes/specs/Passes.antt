@@ -6,7 +6,9 @@ use Rattle.front.specs.Front.{listed}
 use Rattle.rows.specs.declared.Pair.{Pair}
 use Rattle.elimination.specs.declared.State.{State}
 use Rattle.elimination.specs.declared.Step.{Step}
+use Rattle.elimination.specs.declared.Step.the-variants.{Stuck}
 use Rattle.elimination.specs.Elimination.{zero-pair}
+use Rattle.elimination.specs.Refusal.{number-of-step}
 use Rattle.passes.specs.declared.Solved.{Solved}
 use Rattle.passes.specs.Sheet.{most}
 use Rattle.passes.specs.Forward.{Run, going, stuck, runTo, state-at}
@@ -14,7 +16,7 @@ use Rattle.passes.specs.Back.{Back, back, stopped, backTo, pair-at}
 
 -- zeros beside number and place
 abbrev pub refused : ℕ → Solved
-refused place = record { number = 8; place = place; pairs = replicate most zero-pair }
+refused place = record { number = number-of-step Stuck; place = place; pairs = replicate most zero-pair }
 
 abbrev pub returned : Back → List Pair → Solved
 returned (back v) pairs = record { number = 0; place = 0; pairs = pairs }

@@ -17,6 +17,9 @@ use rows::Pair;
 // The most knots that a sheet may have.
 pub const MOST: usize = 64;
 
+// The number of a step that is stuck.
+const STUCK: u32 = 8;
+
 // The pairs of the knots, zeros behind them and behind a refusal.
 pub struct Solved {
     pub number: u32,
@@ -88,7 +91,7 @@ fn forward_pass(minutes: &[u16], ordinates: &[i16], left: End, right: End) -> Fo
             }
             Step::Stuck => {
                 return Forward {
-                    number: 8,
+                    number: STUCK,
                     place: i as u32,
                     states,
                 };
@@ -119,7 +122,7 @@ fn refuse(place: u32) -> Solved
 {
     let zero = elimination::no_pair();
     Solved {
-        number: 8,
+        number: STUCK,
         place,
         pairs: [zero; MOST],
     }
