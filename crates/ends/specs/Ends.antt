@@ -7,6 +7,7 @@ use lib.Dec.{eqb}
 use lib.IntN.{pos}
 use lib.Ieee.{Float, binary64, ofBits, ofInt, neg, lt}
 use Rattle.answer.specs.Answer.{Verdict, _then_, refuse}
+use Rattle.knots.specs.Kinds.{most-given}
 use Rattle.rows.specs.declared.End.{End}
 use Rattle.rows.specs.declared.End.the-variants.{Free, Both, Curvature}
 use Rattle.elimination.specs.Refusal.{is-finite}
@@ -22,9 +23,10 @@ end-by number slope curvature = cond (eqb number 1) (Both slope curvature) (cond
 abbrev pub f256 : Float
 f256 = ofBits binary64 0x4070_0000_0000_0000
 
-pub is-256 : f256 ≡ ofInt binary64 (pos 256)
+-- the pattern is the limit's
+pub is-limit : f256 ≡ ofInt binary64 (pos most-given)
 unfolding ofBits ofInt
-is-256 = refl
+is-limit = refl
 
 -- "NaN, infinite or beyond ±256"
 abbrev pub unfit : Float → Bool

@@ -4,9 +4,8 @@ ghost use Prim.Native.Nat.{_^_, _≤_, _<_};
 ghost use Rattle.answer.specs.Judge.{verdict-of};
 ghost use Rattle.rows.specs.Equations.{code};
 ghost use Rattle.ends.specs.Ends.{end-by, unfit, unfit-end, ends};
+use knots::Kind;
 use rows::End;
-
-const GIVEN: f64 = 256.0;
 
 // ---- codes
 
@@ -39,7 +38,11 @@ fn unfit(x: f64) -> bool
     ensures { λ r. ⌜ r ≡ unfit x ⌝ }
 {
     if elimination::finite(x) {
-        if GIVEN < x { true } else { x < -GIVEN }
+        if Kind::GIVEN < x {
+            true
+        } else {
+            x < -Kind::GIVEN
+        }
     } else {
         true
     }

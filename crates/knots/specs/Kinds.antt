@@ -10,6 +10,10 @@ use Rattle.curve.specs.Curve
 use Rattle.curve.specs.Kind.{Kind, quintic}
 use Rattle.knots.specs.declared.Kind.{Kind as Carried}
 
+-- a number given for an end is from minus this to this, in hundredths per minute (squared)
+abbrev pub most-given : ℕ
+most-given = 256
+
 abbrev pub quintic-card : Carried
 quintic-card = record { code = 2; squares = 16; fourth = true }
 

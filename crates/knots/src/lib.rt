@@ -38,6 +38,9 @@ impl Kind {
 
     pub const CURVATURE: i32 = 1_048_576;
 
+    // of a number given for an end, in hundredths per minute (squared)
+    pub const GIVEN: f64 = 256.0;
+
     pub fn quintic() -> Self
         ensures { λ r. ⌜ r ≡ quintic-card ⌝ }
     {
