@@ -6,7 +6,6 @@ use mathlib.Core.List.{[], _∷_, map}
 use lib.Ieee.{Float, nan, inf, binary64, ofBits, neg, ne, add, sub, mul, div}
 use Rattle.rows.specs.declared.Pair.{Pair}
 use Rattle.rows.specs.declared.Block.{Block}
-use Rattle.rows.specs.declared.Row.{Row}
 use Rattle.elimination.specs.declared.State.{State}
 use Rattle.rows.specs.Floats.{f0, f1}
 use Rattle.rows.specs.Equations.{pair, block, zeros}
