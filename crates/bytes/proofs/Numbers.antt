@@ -25,6 +25,10 @@ un-lt (b ∷ bs) h =
 
 -- ---- bytes
 
+pub bytes-none : Bytes []
+unfolding Bytes
+bytes-none i = omega arith
+
 pub bytes-append : (s t : List ℕ) → Bytes s → Bytes t → Bytes (s ++ t)
 unfolding Bytes
 bytes-append [] t h k i = k i

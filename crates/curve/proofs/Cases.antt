@@ -33,7 +33,7 @@ table-3 M =
       right = 0;
     }
 
-line : Card
+unfoldable pub line : Card
 line =
     record {
       minutes = 0 ∷ 2 ∷ 4 ∷ [];
@@ -68,7 +68,7 @@ pub record Case : Type 0 where
 abbrev pub _is_ : Answer (List ℤ) → Answer (List ℤ) → Case
 f is w = record { found = f; wanted = w }
 
-pub cases : List Case
+unfoldable pub cases : List Case
 cases =
     (value-slope p1 4 is given (minus 14 ∷ minus 238_400 ∷ []))
     ∷ (value p1 12 is given (pos 314 ∷ []))

@@ -56,8 +56,7 @@ spares {v = v} {k = k} vs entry {exit} s e room =
     front : v ≡ accepted → (length exit ≡ length entry) × (drop k exit ≡ drop k entry)
     front a =
         let r = room a in
-        let is : exit ≡ vs ++ drop (length vs) entry = e ∙ ap (λ u. lent-after u vs entry) a in
-        (
+        let is : exit ≡ vs ++ drop (length vs) entry = e ∙ ap (λ u. lent-after u vs entry) a in (
           ap length is ∙ simp (length-append, length-drop) (omega arith),
           ap (drop k) is ∙ drop-at vs _ k (r .0) ∙ ap (λ i. drop i entry) (r .0),
         )

@@ -19,7 +19,8 @@ use Rattle.exists.specs.Ended.{Fraction, Is, Given, Has}
 use Rattle.rows.specs.declared.End.{End}
 use Rattle.rows.specs.declared.End.the-variants.{Free, Both, Curvature}
 use Rattle.units.specs.Units.{signed, units-of}
-use Rattle.ends.specs.Ends.{code, unfit, unfit-end}
+use Rattle.rows.specs.Equations.{code}
+use Rattle.ends.specs.Ends.{unfit, unfit-end}
 use Rattle.exact_fit.specs.Given.{Equals, HasGiven}
 
 -- ---- a number

@@ -17,7 +17,7 @@ use Rattle.curve.specs.Exact.{Exact}
 use Rattle.knots.specs.Lent.{lent}
 use Rattle.exists.specs.Rounded.{rounded}
 use Rattle.rows.specs.declared.End.{End}
-use Rattle.ends.specs.Ends.{code}
+use Rattle.rows.specs.Equations.{code}
 use Rattle.fit.specs.Fit.{standing}
 use Rattle.exact_fit.specs.Given.{HasGiven}
 
