@@ -1,29 +1,36 @@
--- The page is of something: Table 3's card is accepted by the writer and its bytes by the card test, a minute of it stands on it, and it is within half a unit of an exact solution.
--- Whatever lifetimes, pointers and names the lists have. Assumes nothing.
+-- The page is of something: Table 3's card is accepted by the writer, its bytes by the card test and by a reading, and it is within half a unit of an exact solution.
+-- Assumes nothing.
 use mathlib.Core.Path.{_≡_, refl, sym, ap, subst, _∙_}
 use mathlib.Core.List.{List, []}
-use Prim.Native.Nat.{ℕ}
-use lib.Dec.{lit≤}
+use Prim.Native.Nat.{ℕ, zero, suc}
+use native.Mathlib.Omega.{arith}
+use borrow.Author.Tests.{le-ltb}
+use lib.Dec.{lit<, lit≤}
 use lib.IntN.{ℤ}
-use lib.ListN.{getD}
+use lib.ListN.{length, getD}
 use base.Fml.{Lft, GName}
 use denote.Ref.{RefT}
 use Rattle.answer.specs.Answer.{Answer, refused, given, accepted}
-use Rattle.answer.proofs.Steps.{not-both, first-accepts, next-accepts, both-accept}
+use Rattle.answer.specs.Lent.{lent-after}
+use Rattle.answer.proofs.Steps.{not-both, first-accepts, next-accepts, both-accept, accepts-refuse}
 use Rattle.curve.specs.Kind.{quintic}
 use Rattle.curve.specs.Card.{knots, knot}
-use Rattle.curve.specs.Steps.{lengths, counted as counted′, codes}
-use Rattle.curve.specs.Orders.{verdict, card-order, reading-order, reading}
+use Rattle.curve.specs.Steps.{lengths, counted as counted′, codes, size, room}
+use Rattle.curve.specs.Orders.{verdict, card-order, write-order, reading-order, reading}
 use Rattle.curve.proofs.Cases.{table-3, p1, shown, value-slope, cases, hold}
 use Rattle.curve.proofs.Witness.{table-3-exact, table-3-near}
 use Rattle.card_bytes.specs.Bytes.{quintic-head, bytes-of}
 use Rattle.card_bytes.specs.Held.{card-of}
 use Rattle.card_bytes.specs.Records.{card-verdict}
 use Rattle.card_bytes.proofs.Table3.{table-3-bytes}
-use Rattle.card.specs.Answers.{own, checked}
-use Rattle.demands.specs.Calls.{A-check, checked-bytes}
+use Rattle.card_bytes.proofs.Sizes.{length-card}
+use Rattle.card.specs.Answers.{own, checked, read-off}
+use Rattle.writer.specs.Promise.{written, Writes}
+use Rattle.kaihveto.specs.Types.{Minutes}
+use Rattle.demands.specs.Calls.{A-write, A-check, A-reading}
 use Rattle.demands.specs.Demands.{Is-given, On-the-card, Half-a-unit}
 use Rattle.demands.proofs.Written.{card-bytes}
+use Rattle.demands.proofs.Demands.{hold as hold-all}
 
 abbrev bytes : List ℕ
 bytes = bytes-of quintic-head p1
@@ -56,14 +63,54 @@ pub minute-4 : On-the-card p1 4
 unfolding p1 table-3 knots knot
 minute-4 = (lit≤ tt, lit≤ tt)
 
--- a call of kaihveto_check with its bytes: it accepts
+-- ---- calls of the functions that the demands speak of, each of which is accepted; whatever lifetimes, pointers and names their lists have
+
+pub minutes-typed : Minutes (p1 .minutes)
+unfolding Minutes p1 table-3
+minutes-typed zero = lit< tt
+minutes-typed (suc zero) = lit< tt
+minutes-typed (suc (suc zero)) = lit< tt
+minutes-typed (suc (suc (suc zero))) = lit< tt
+minutes-typed (suc (suc (suc (suc zero)))) = lit< tt
+minutes-typed (suc (suc (suc (suc (suc i))))) = lit< tt
+
+writes : write-order quintic p1 (length bytes) ≡ accepted
+unfolding write-order room
+writes = both-accept card-accepted (accepts-refuse 26 0 (le-ltb (length bytes) (size (knots p1)) (omega (arith, length-card quintic-head p1))))
+
 module _ (lifetime : Lft) (pointer : ℕ × ℕ) (name : GName) where
-  abbrev list : RefT (List ℕ)
-  list = record { ptr = pointer; name = name; now = bytes }
+  abbrev list : {A : Type 0} → List A → RefT (List A)
+  list l = record { ptr = pointer; name = name; now = l }
 
-  abbrev pub call : A-check
-  call = record { lifetimes = (lifetime, tt); arguments = (list, tt); answer = checked (own bytes) (card-of bytes); exit = (list, tt); promised = (refl, card-bytes quintic-head p1) }
+  abbrev pub check-call : A-check
+  check-call = record { lifetimes = (lifetime, tt); arguments = (list bytes, tt); answer = checked (own bytes) (card-of bytes); exit = (list bytes, tt); promised = (refl, card-bytes quintic-head p1) }
 
-  pub call-accepts : call .answer .number ≡ 0
+  pub check-accepts : check-call .answer .number ≡ 0
   unfolding checked
-  call-accepts = ap (λ v. checked v (card-of bytes) .number) bytes-accepted
+  check-accepts = ap (λ v. checked v (card-of bytes) .number) bytes-accepted
+
+  abbrev pub reading-call : A-reading
+  reading-call = record { lifetimes = (lifetime, tt); arguments = (list bytes, (4, tt)); answer = read-off bytes 4; exit = (list bytes, (4, tt)); promised = refl }
+
+  pub reading-accepts : reading-call .answer .number ≡ 0
+  reading-accepts = hold-all .three .off check-call check-accepts .close reading-call refl (subst (λ c. On-the-card c 4) (sym (table-3-bytes .2)) minute-4) .0
+
+  -- into a buffer of just the card's size
+  abbrev pub write-call : A-write
+  write-call =
+      let v = write-order quintic p1 (length bytes) in
+      let xs = list (p1 .minutes) in
+      let ys = list (p1 .ordinates) in
+      let ms = list (p1 .slopes) in
+      let Ms = list (p1 .curvatures) in
+      record {
+        lifetimes = (lifetime, (lifetime, (lifetime, (lifetime, (lifetime, tt)))));
+        arguments = (xs, (ys, (ms, (Ms, (0, (0, (list bytes, tt)))))));
+        answer = written v (size (knots p1));
+        exit = (xs, (ys, (ms, (Ms, (0, (0, (list (lent-after v bytes bytes), tt)))))));
+        promised = (record { answer = refl; buffer = refl }, minutes-typed);
+      }
+
+  pub write-accepts : write-call .answer .number ≡ 0
+  unfolding written
+  write-accepts = ap (λ v. written v (size (knots p1)) .number) writes
