@@ -105,9 +105,9 @@ module _ (lifetime : Lft) (pointer : ℕ × ℕ) (name : GName) where
       let Ms = list (p1 .curvatures) in
       record {
         lifetimes = (lifetime, (lifetime, (lifetime, (lifetime, (lifetime, tt)))));
-        arguments = (xs, (ys, (ms, (Ms, (0, (0, (list bytes, tt)))))));
+        arguments = (xs, (ys, (ms, (Ms, (p1 .left, (p1 .right, (list bytes, tt)))))));
         answer = written v (size (knots p1));
-        exit = (xs, (ys, (ms, (Ms, (0, (0, (list (lent-after v bytes bytes), tt)))))));
+        exit = (xs, (ys, (ms, (Ms, (p1 .left, (p1 .right, (list (lent-after v bytes bytes), tt)))))));
         promised = (record { answer = refl; buffer = refl }, minutes-typed);
       }
 
