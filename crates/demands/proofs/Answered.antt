@@ -36,7 +36,7 @@ use Rattle.writer.specs.declared.Written.{Written}
 use Rattle.writer.specs.Promise.{written, Writes}
 use Rattle.writer.proofs.Ready.{ready-of}
 use Rattle.demands.specs.Calls.{Fitting, the-fit}
-use Rattle.demands.specs.Demands.{Is-given, Says, Spares, No-card, Fit-answers}
+use Rattle.demands.specs.Demands.{Is-given, Says, Spares, No-card, Fit-says, Fit-spares}
 use Rattle.demands.proofs.Numbered.{says, accepts, mean-numbered, fit-numbered, write-numbered, card-numbered, into-numbered, reading-numbered}
 
 -- ---- lent lists
@@ -85,14 +85,14 @@ behind : (l : List ℤ) {n : ℕ} → length l ≡ n → drop n l ≡ []
 behind l e = rw (← e) (drop-length l)
 
 module _ (f : Fitting) (named : Never 0 (f .named)) (fits : Fits (the-fit f) (f .slopes) (f .curvatures) (f .slopes′) (f .curvatures′) (f .answer)) where
-  fit-says : Says (the-fit f) (f .answer .number) (f .answer .place)
+  pub fit-says : Fit-says f
   fit-says =
       says (the-fit f) (fit-numbered (f .minutes) (f .ordinates) (f .left) (f .right) _ _ named) (ap (λ r. r .number) (fits .answer)) (ap (λ r. r .place) (fits .answer))
 
   -- every place of the two lists is written, or none
-  fit-spares : {entry exit : List ℤ} (after : Answer Card → List ℤ → List ℤ) → exit ≡ after (the-fit f) entry → ((n p : ℕ) → after (refused n p) entry ≡ entry)
+  spares-all : {entry exit : List ℤ} (after : Answer Card → List ℤ → List ℤ) → exit ≡ after (the-fit f) entry → ((n p : ℕ) → after (refused n p) entry ≡ entry)
       → ((c : Card) → the-fit f ≡ given c → (length (after (given c) entry) ≡ length (f .minutes)) × (length entry ≡ length (f .minutes))) → Spares (f .answer .number) (length (f .minutes)) entry exit
-  fit-spares {entry} {exit} after e none all = record { refused = λ h. e ∙ go (the-fit f) refl h; given = λ z. written (fit-says .accepts z) }
+  spares-all {entry} {exit} after e none all = record { refused = λ h. e ∙ go (the-fit f) refl h; given = λ z. written (fit-says .accepts z) }
     where
       go : (v : Answer Card) → the-fit f ≡ v → f .answer .number ≢ 0 → after v entry ≡ entry
       go (refused n p) is h = none n p
@@ -104,8 +104,8 @@ module _ (f : Fitting) (named : Never 0 (f .named)) (fits : Fits (the-fit f) (f 
           let long : length exit ≡ length (f .minutes) = ap length (e ∙ ap (λ v. after v entry) (g .is)) ∙ l .0 in
           (long ∙ sym (l .1), behind exit long ∙ sym (behind entry (l .1)))
 
-  pub fit-answers : Fit-answers f
-  fit-answers = record { says = fit-says; slopes = fit-spares slopes-after (fits .slopes) (λ n p. refl) all; curvatures = fit-spares curvatures-after (fits .curvatures) (λ n p. refl) all′ }
+  pub fit-spares : Fit-spares f
+  fit-spares = (spares-all slopes-after (fits .slopes) (λ n p. refl) all, spares-all curvatures-after (fits .curvatures) (λ n p. refl) all′)
     where
       all : (c : Card) → the-fit f ≡ given c → (length (c .slopes) ≡ length (f .minutes)) × (length (f .slopes) ≡ length (f .minutes))
       all c is = (places-written (f .minutes) (f .ordinates) (f .left) (f .right) _ _ (f .named) is .0, places-lent (f .minutes) (f .ordinates) (f .left) (f .right) _ _ (f .named) is .0)

@@ -12,20 +12,20 @@ use Rattle.card_bytes.proofs.RoundTrip.{accepted-card}
 use Rattle.card.specs.Answers.{own, read-off}
 use Rattle.exact_fit.proofs.Solution.{one-exact}
 use Rattle.demands.specs.Calls.{A-fit, A-fit-between, without-ends, between-ends, buffer, A-check, checked-bytes, read-bytes, places, reading-bytes, minute, first-minute, log}
-use Rattle.demands.specs.Demands.{Fit-answers, Room-for, Off, Demand-1, Demand-2, Demand-3, Demands}
+use Rattle.demands.specs.Demands.{Fit-says, Room-for, Off, Demand-1, Demand-2, Demand-3, Demands}
 use Rattle.demands.proofs.Numbered.{accepts, codes-numbered}
-use Rattle.demands.proofs.Answered.{mean-answers, fit-answers, check-answers, read-answers, read-spares, write-answers, write-spares, reading-answers}
+use Rattle.demands.proofs.Answered.{mean-answers, fit-says, fit-spares, check-answers, read-answers, read-spares, write-answers, write-spares, reading-answers}
 use Rattle.demands.proofs.Given.{eliminates, stated}
 use Rattle.demands.proofs.RoundTrip.{written-accepted, written-held, accepts-its-card, takes, reads-its-card, made-again}
 use Rattle.demands.proofs.Off.{stands-on-a-gap, of-card, close, at-knots, written-never, checked-never, read-never, read-off-never}
 
 -- ---- 1
 
-fits : (c : A-fit) → Fit-answers (without-ends c)
-fits c = fit-answers (without-ends c) given-never (c .promised)
+fits : (c : A-fit) → Fit-says (without-ends c)
+fits c = fit-says (without-ends c) given-never (c .promised)
 
-fits-between : (c : A-fit-between) → Fit-answers (between-ends c)
-fits-between c = fit-answers (between-ends c) (codes-numbered quintic _ _) (c .promised)
+fits-between : (c : A-fit-between) → Fit-says (between-ends c)
+fits-between c = fit-says (between-ends c) (codes-numbered quintic _ _) (c .promised)
 
 one : Demand-1
 one =
@@ -34,6 +34,8 @@ one =
       mean-zeros = λ c. mean-answers (first-minute c) (log c) (c .promised) .1;
       fit = fits;
       fit-between = fits-between;
+      fit-spares = λ c. fit-spares (without-ends c) given-never (c .promised);
+      fit-between-spares = λ c. fit-spares (between-ends c) (codes-numbered quintic _ _) (c .promised);
       write = λ c. write-answers (c .promised .0) .0;
       write-zeros = λ c. write-answers (c .promised .0) .1;
       write-spares = λ c. write-spares (c .promised .0);
@@ -55,8 +57,8 @@ tested c zero = accepts (check-answers (checked-bytes c) (c .promised .0) .0) ze
 two : Demand-2
 two =
     record {
-      fit = λ c zero. eliminates (without-ends c) (c .promised) (fits c .says .accepts zero);
-      fit-between = λ c zero. eliminates (between-ends c) (c .promised) (fits-between c .says .accepts zero);
+      fit = λ c zero. eliminates (without-ends c) (c .promised) (fits c .accepts zero);
+      fit-between = λ c zero. eliminates (between-ends c) (c .promised) (fits-between c .accepts zero);
       mean = λ c zero. stated (first-minute c) (log c) (c .promised) (mean-answers (first-minute c) (log c) (c .promised) .0 .accepts zero);
       written-is-checked = λ w c zero same.
           accepts-its-card (checked-bytes c) (written-held (w .promised .0) (w .promised .1) zero same) (c .promised .0) (written-accepted (w .promised .0) (w .promised .1) zero same);

@@ -53,37 +53,42 @@ pub record Spares {A : Type 0} (n k : ℕ) (entry exit : List A) : Type 0 where
 abbrev pub No-card : Checked → Type 0
 No-card r = r .number ≢ 0 → (r .knots ≡ 0) × (r .left ≡ 0) × (r .right ≡ 0)
 
--- a fit
-pub record Fit-answers (f : Fitting) : Type 0 where
-  pub says : Says (the-fit f) (f .answer .number) (f .answer .place)
-  pub slopes : Spares (f .answer .number) (length (f .minutes)) (f .slopes) (f .slopes′)
-  pub curvatures : Spares (f .answer .number) (length (f .minutes)) (f .curvatures) (f .curvatures′)
+-- an answer to a fit, by its order: 3, 1, 2, 15; per knot 4, 5, 6; 7; 8; 9; 10
+abbrev pub Fit-says : Fitting → Type 0
+Fit-says f = Says (the-fit f) (f .answer .number) (f .answer .place)
+
+abbrev pub Fit-spares : Fitting → Type 0
+Fit-spares f = Spares (f .answer .number) (length (f .minutes)) (f .slopes) (f .slopes′) × Spares (f .answer .number) (length (f .minutes)) (f .curvatures) (f .curvatures′)
 
 pub record Demand-1 : Type 0 where
-  -- the mean of a log: 16, 12, 13
+  -- "Every input gets an answer: bad knots, logs, cards and minutes are refused by number and place"
+  -- 16, 12, 13
   pub mean : (c : A-mean) → Says (Log.mean (first-minute c) (log c)) (c .answer .number) (c .answer .place)
-  pub mean-zeros : (c : A-mean) → c .answer .number ≢ 0 → (c .answer .minute ≡ 0) × (c .answer .ordinate ≡ pos 0) × (c .answer .good ≡ 0)
-  -- the fit: 3, 1, 2, 15; per knot 4, 5, 6; 7; 8; 9; 10
-  pub fit : (c : A-fit) → Fit-answers (without-ends c)
-  pub fit-between : (c : A-fit-between) → Fit-answers (between-ends c)
-  -- the writer: 3, 1, 2, 15; per knot 4, 5, 6; 9; 10; 26
+  pub fit : (c : A-fit) → Fit-says (without-ends c)
+  pub fit-between : (c : A-fit-between) → Fit-says (between-ends c)
+  -- 3, 1, 2, 15; per knot 4, 5, 6; 9; 10; 26
   pub write : (c : A-write) → Says (write-order quintic (written-card c) (length (buffer c))) (c .answer .number) (c .answer .place)
-  pub write-zeros : (c : A-write) → c .answer .number ≢ 0 → c .answer .bytes ≡ 0
-  pub write-spares : (c : A-write) → Spares (c .answer .number) (c .answer .bytes) (buffer c) (buffer′ c)
-  -- the card: head 14; 1, 2; 15; the other records 14; per knot 4, 5, 6; 9; 10
+  -- head 14; 1, 2; 15; the other records 14; per knot 4, 5, 6; 9; 10
   pub check : (c : A-check) → Says (own (checked-bytes c)) (c .answer .number) (c .answer .place)
-  pub check-zeros : (c : A-check) → No-card (c .answer)
-  -- the card into lent lists: 3, the card's, 26
+  -- 3, the card's, 26
   pub read : (c : A-read) → Says (into (places c) (read-bytes c)) (c .answer .number) (c .answer .place)
+  -- the card's, then 11
+  pub reading : (c : A-reading) → Says (reading-order (own (reading-bytes c)) (card-of (reading-bytes c)) (minute c)) (c .answer .number) (c .answer .place)
+  -- "the numbers beside a refusal are zero"
+  pub mean-zeros : (c : A-mean) → c .answer .number ≢ 0 → (c .answer .minute ≡ 0) × (c .answer .ordinate ≡ pos 0) × (c .answer .good ≡ 0)
+  pub write-zeros : (c : A-write) → c .answer .number ≢ 0 → c .answer .bytes ≡ 0
+  pub check-zeros : (c : A-check) → No-card (c .answer)
   pub read-zeros : (c : A-read) → No-card (c .answer)
+  pub reading-zeros : (c : A-reading) → c .answer .number ≢ 0 → (c .answer .value ≡ pos 0) × (c .answer .slope ≡ pos 0) × (c .answer .curvature ≡ pos 0)
+  -- "and lent memory stays untouched"; on acceptance only the n places or the card's bytes are written
+  pub fit-spares : (c : A-fit) → Fit-spares (without-ends c)
+  pub fit-between-spares : (c : A-fit-between) → Fit-spares (between-ends c)
+  pub write-spares : (c : A-write) → Spares (c .answer .number) (c .answer .bytes) (buffer c) (buffer′ c)
   pub read-spares : (c : A-read) →
       Spares (c .answer .number) (c .answer .knots) (places c .minutes) (places′ c .minutes)
       × Spares (c .answer .number) (c .answer .knots) (places c .ordinates) (places′ c .ordinates)
       × Spares (c .answer .number) (c .answer .knots) (places c .slopes) (places′ c .slopes)
       × Spares (c .answer .number) (c .answer .knots) (places c .curvatures) (places′ c .curvatures)
-  -- a reading: the card's, then 11
-  pub reading : (c : A-reading) → Says (reading-order (own (reading-bytes c)) (card-of (reading-bytes c)) (minute c)) (c .answer .number) (c .answer .place)
-  pub reading-zeros : (c : A-reading) → c .answer .number ≢ 0 → (c .answer .value ≡ pos 0) × (c .answer .slope ≡ pos 0) × (c .answer .curvature ≡ pos 0)
 
 -- ---- 2. "The fit is exactly the elimination that the paper prescribes, each operation rounded once; logs give the stated mean; writing a sound card and reading it returns it, and
 -- accepted bytes are those that the writer makes."
@@ -116,16 +121,17 @@ abbrev pub written-bytes : A-write → List ℕ
 written-bytes w = take (w .answer .bytes) (buffer′ w)
 
 pub record Demand-2 : Type 0 where
+  -- "The fit is exactly the elimination that the paper prescribes, each operation rounded once"
   pub fit : (c : A-fit) → c .answer .number ≡ 0 → Eliminates (without-ends c)
   pub fit-between : (c : A-fit-between) → c .answer .number ≡ 0 → Eliminates (between-ends c)
-  -- "50 × sum ÷ count over the good bytes, rounded to nearest, ties to even; the count of good bytes is returned with it", at "the log's first minute"
+  -- "logs give the stated mean": 50 × sum ÷ count over the good bytes, rounded to nearest, ties to even, with their count, at the log's first minute
   pub mean : (c : A-mean) → c .answer .number ≡ 0 →
       (c .answer .minute ≡ first-minute c) × (c .answer .ordinate ≡ nearest (pos (50 * sum (log c))) (count (log c))) × (c .answer .good ≡ count (log c))
-  -- what was written is accepted, and read back as it was
+  -- "writing a sound card and reading it returns it": what was written is accepted, and read back as it was
   pub written-is-checked : (w : A-write) (c : A-check) → w .answer .number ≡ 0 → checked-bytes c ≡ written-bytes w → Accepts-as (written-card w) (c .answer)
   pub written-is-read : (w : A-write) (r : A-read) → w .answer .number ≡ 0 → read-bytes r ≡ written-bytes w → Room-for (knots (written-card w)) (places r) →
       Accepts-as (written-card w) (r .answer) × (front (r .answer .knots) (places′ r) (r .answer .left) (r .answer .right) ≡ written-card w)
-  -- of bytes that are accepted, the writer makes the same of what the reader gives
+  -- "and accepted bytes are those that the writer makes", of what the reader gives
   pub checked-is-written : (c : A-check) (r : A-read) (w : A-write) → c .answer .number ≡ 0
       → read-bytes r ≡ checked-bytes c → r .answer .number ≡ 0
       → written-card w ≡ front (r .answer .knots) (places′ r) (r .answer .left) (r .answer .right) → length (checked-bytes c) ≤ length (buffer w)
@@ -146,11 +152,15 @@ pub record A-gap (card : Card) (m : ℕ) : Type 0 where
 
 -- of bytes, and the card that they hold
 pub record Off (s : List ℕ) : Type 0 where
+  -- "at any whole minute of it"
   pub gaps : (m : ℕ) → On-the-card (card-of s) m → A-gap (card-of s) m
+  -- "the value is within half a hundredth and slope and curvature within half a card unit of the exact curve"
   pub close : (r : A-reading) → reading-bytes r ≡ s → On-the-card (card-of s) (minute r) →
       (r .answer .number ≡ 0) × ((i t : ℕ) → On-gap (card-of s) (minute r) i t → Close (knot (card-of s) i) (knot (card-of s) (i + 1)) t (three r))
+  -- "at knots they are the card's own"
   pub at-knots : (r : A-reading) → reading-bytes r ≡ s → (i : ℕ) → i < knots (card-of s) → minute r ≡ knot (card-of s) i .x →
       (r .answer .number ≡ 0) × (three r ≡ numbers (knot (card-of s) i))
+  -- "third and fourth derivatives jump by no more than is allowed"
   pub jumps : (i : ℕ) → i + 2 < knots (card-of s) → (o : Order) → T (quintic .asks inner o) →
       Jump-within quintic o (knot (card-of s) i) (knot (card-of s) (i + 1)) (knot (card-of s) (i + 2))
 
@@ -160,7 +170,9 @@ pub record Half-a-unit (card : Card) : Type 0 where
   pub near : Near exact
 
 pub record Demand-3 : Type 0 where
+  -- "Off any accepted card", "whoever wrote the card"
   pub off : (c : A-check) → c .answer .number ≡ 0 → Off (checked-bytes c)
+  -- "and no card within half a unit of an exact solution is refused for a jump"
   pub write-never-10 : (c : A-write) → Half-a-unit (written-card c) → c .answer .number ≢ 10
   pub check-never-10 : (c : A-check) → Half-a-unit (card-of (checked-bytes c)) → c .answer .number ≢ 10
   pub read-never-10 : (c : A-read) → Half-a-unit (card-of (read-bytes c)) → c .answer .number ≢ 10
