@@ -89,7 +89,10 @@ pub fn read(
     slopes: &mut [i32],
     curvatures: &mut [i32],
 ) -> Checked
-    ensures { λ r. ⌜ Reads (now (card .entry)) (lists (minutes .entry) (ordinates .entry) (slopes .entry) (curvatures .entry)) (lists (minutes .exit) (ordinates .exit) (slopes .exit) (curvatures .exit)) r ⌝ }
+    ensures { λ r. ⌜
+        Reads (now (card .entry))
+        (lists (minutes .entry) (ordinates .entry) (slopes .entry) (curvatures .entry))
+        (lists (minutes .exit) (ordinates .exit) (slopes .exit) (curvatures .exit)) r ⌝ }
 {
     let opened = Opened::by_head(card);
     let held = opened.card;

@@ -55,7 +55,10 @@ fn settle(
 ) -> Fitted
     requires { ⌜ Alike (now minutes) (now ordinates) (now slopes) (now curvatures) ⌝ }
     requires { ⌜ each (stands quintic (now minutes) (now ordinates)) 0 (length (now minutes)) ≡ accepted ⌝ }
-    ensures { λ r. ⌜ Fits (tested (card-with (now (minutes .entry)) (now (ordinates .entry)) left right numbers)) (now (slopes .entry)) (now (curvatures .entry)) (now (slopes .exit)) (now (curvatures .exit)) r ⌝ }
+    ensures { λ r. ⌜
+        Fits
+        (tested (card-with (now (minutes .entry)) (now (ordinates .entry)) left right numbers))
+        (now (slopes .entry)) (now (curvatures .entry)) (now (slopes .exit)) (now (curvatures .exit)) r ⌝ }
 {
     let sound = judge(minutes, ordinates, left, right, numbers);
     match sound {
@@ -84,7 +87,10 @@ fn solve(
 ) -> Fitted
     requires { ⌜ Alike (now minutes) (now ordinates) (now slopes) (now curvatures) ⌝ }
     requires { ⌜ each (stands quintic (now minutes) (now ordinates)) 0 (length (now minutes)) ≡ accepted ⌝ }
-    ensures { λ r. ⌜ Fits (eliminated (now (minutes .entry)) (now (ordinates .entry)) left right then tested (card-of (now (minutes .entry)) (now (ordinates .entry)) left right)) (now (slopes .entry)) (now (curvatures .entry)) (now (slopes .exit)) (now (curvatures .exit)) r ⌝ }
+    ensures { λ r. ⌜
+        Fits
+        (eliminated (now (minutes .entry)) (now (ordinates .entry)) left right then tested (card-of (now (minutes .entry)) (now (ordinates .entry)) left right))
+        (now (slopes .entry)) (now (curvatures .entry)) (now (slopes .exit)) (now (curvatures .exit)) r ⌝ }
 {
     let solved = passes::pairs_of(minutes, ordinates, left, right);
     if solved.number == 0 {
@@ -109,7 +115,10 @@ fn stand_and_solve(
     right: End,
 ) -> Fitted
     requires { ⌜ Alike (now minutes) (now ordinates) (now slopes) (now curvatures) ⌝ }
-    ensures { λ r. ⌜ Fits (standing (now (minutes .entry)) (now (ordinates .entry)) left right then eliminated (now (minutes .entry)) (now (ordinates .entry)) left right then tested (card-of (now (minutes .entry)) (now (ordinates .entry)) left right)) (now (slopes .entry)) (now (curvatures .entry)) (now (slopes .exit)) (now (curvatures .exit)) r ⌝ }
+    ensures { λ r. ⌜
+        Fits
+        (standing (now (minutes .entry)) (now (ordinates .entry)) left right then eliminated (now (minutes .entry)) (now (ordinates .entry)) left right then tested (card-of (now (minutes .entry)) (now (ordinates .entry)) left right))
+        (now (slopes .entry)) (now (curvatures .entry)) (now (slopes .exit)) (now (curvatures .exit)) r ⌝ }
 {
     let stood = answer::first(
         knots::stand(minutes, ordinates),
@@ -131,7 +140,10 @@ fn fit_into(
     left: End,
     right: End,
 ) -> Fitted
-    ensures { λ r. ⌜ Fits (fit-of (now (minutes .entry)) (now (ordinates .entry)) left right (length (now (slopes .entry))) (length (now (curvatures .entry))) (verdict-of named)) (now (slopes .entry)) (now (curvatures .entry)) (now (slopes .exit)) (now (curvatures .exit)) r ⌝ }
+    ensures { λ r. ⌜
+        Fits
+        (fit-of (now (minutes .entry)) (now (ordinates .entry)) left right (length (now (slopes .entry))) (length (now (curvatures .entry))) (verdict-of named))
+        (now (slopes .entry)) (now (curvatures .entry)) (now (slopes .exit)) (now (curvatures .exit)) r ⌝ }
 {
     let sized = knots::sized(
         minutes.len(),
@@ -155,7 +167,11 @@ pub fn fit_between(
     left: End,
     right: End,
 ) -> Fitted
-    ensures { λ r. ⌜ Fits (fit-between (now (minutes .entry)) (now (ordinates .entry)) (length (now (slopes .entry))) (length (now (curvatures .entry))) left right) (now (slopes .entry)) (now (curvatures .entry)) (now (slopes .exit)) (now (curvatures .exit)) r ⌝ }
+    ensures { λ r. ⌜
+        Fits
+        (fit-between (now (minutes .entry)) (now (ordinates .entry)) (length (now (slopes .entry))) (length (now (curvatures .entry)))
+        left right)
+        (now (slopes .entry)) (now (curvatures .entry)) (now (slopes .exit)) (now (curvatures .exit)) r ⌝ }
 {
     fit_into(
         minutes,
@@ -181,7 +197,11 @@ pub fn fit_codes(
     right_slope: f64,
     right_curvature: f64,
 ) -> Fitted
-    ensures { λ r. ⌜ Fits (fit-codes (now (minutes .entry)) (now (ordinates .entry)) (length (now (slopes .entry))) (length (now (curvatures .entry))) left «left_slope» «left_curvature» right «right_slope» «right_curvature») (now (slopes .entry)) (now (curvatures .entry)) (now (slopes .exit)) (now (curvatures .exit)) r ⌝ }
+    ensures { λ r. ⌜
+        Fits
+        (fit-codes (now (minutes .entry)) (now (ordinates .entry)) (length (now (slopes .entry))) (length (now (curvatures .entry)))
+        left «left_slope» «left_curvature» right «right_slope» «right_curvature»)
+        (now (slopes .entry)) (now (curvatures .entry)) (now (slopes .exit)) (now (curvatures .exit)) r ⌝ }
 {
     let named = knots::codes(knots::Kind::quintic(), left, right);
     let from = ends::end_by(left, left_slope, left_curvature);
@@ -191,7 +211,10 @@ pub fn fit_codes(
 
 // "A fit asked without ends takes free at both."
 pub fn fit(minutes: &[u16], ordinates: &[i16], slopes: &mut [i32], curvatures: &mut [i32]) -> Fitted
-    ensures { λ r. ⌜ Fits (fit (now (minutes .entry)) (now (ordinates .entry)) (length (now (slopes .entry))) (length (now (curvatures .entry)))) (now (slopes .entry)) (now (curvatures .entry)) (now (slopes .exit)) (now (curvatures .exit)) r ⌝ }
+    ensures { λ r. ⌜
+        Fits
+        (fit (now (minutes .entry)) (now (ordinates .entry)) (length (now (slopes .entry))) (length (now (curvatures .entry))))
+        (now (slopes .entry)) (now (curvatures .entry)) (now (slopes .exit)) (now (curvatures .exit)) r ⌝ }
 {
     fit_between(minutes, ordinates, slopes, curvatures, End::Free, End::Free)
 }

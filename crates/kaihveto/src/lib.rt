@@ -31,7 +31,10 @@ pub extern "C" fn kaihveto_fit(
     slopes: &mut [i32],
     curvatures: &mut [i32],
 ) -> fit::Fitted
-    ensures { λ r. ⌜ Fits (fit (now (minutes .entry)) (now (ordinates .entry)) (length (now (slopes .entry))) (length (now (curvatures .entry)))) (now (slopes .entry)) (now (curvatures .entry)) (now (slopes .exit)) (now (curvatures .exit)) r ⌝ }
+    ensures { λ r. ⌜
+        Fits
+        (fit (now (minutes .entry)) (now (ordinates .entry)) (length (now (slopes .entry))) (length (now (curvatures .entry))))
+        (now (slopes .entry)) (now (curvatures .entry)) (now (slopes .exit)) (now (curvatures .exit)) r ⌝ }
 {
     fit::fit(minutes, ordinates, slopes, curvatures)
 }
@@ -50,7 +53,11 @@ pub extern "C" fn kaihveto_fit_ends(
     right_slope: f64,
     right_curvature: f64,
 ) -> fit::Fitted
-    ensures { λ r. ⌜ Fits (fit-codes (now (minutes .entry)) (now (ordinates .entry)) (length (now (slopes .entry))) (length (now (curvatures .entry))) left «left_slope» «left_curvature» right «right_slope» «right_curvature») (now (slopes .entry)) (now (curvatures .entry)) (now (slopes .exit)) (now (curvatures .exit)) r ⌝ }
+    ensures { λ r. ⌜
+        Fits
+        (fit-codes (now (minutes .entry)) (now (ordinates .entry)) (length (now (slopes .entry))) (length (now (curvatures .entry)))
+        left «left_slope» «left_curvature» right «right_slope» «right_curvature»)
+        (now (slopes .entry)) (now (curvatures .entry)) (now (slopes .exit)) (now (curvatures .exit)) r ⌝ }
 {
     fit::fit_codes(
         minutes,
@@ -77,7 +84,10 @@ pub extern "C" fn kaihveto_write(
     right: u16,
     buffer: &mut [u8],
 ) -> writer::Written
-    ensures { λ r. ⌜ Writes (lent (now (minutes .entry)) (now (ordinates .entry)) (now (slopes .entry)) (now (curvatures .entry)) left right) (now (buffer .entry)) (now (buffer .exit)) r ⌝ }
+    ensures { λ r. ⌜
+        Writes
+        (lent (now (minutes .entry)) (now (ordinates .entry)) (now (slopes .entry)) (now (curvatures .entry)) left right)
+        (now (buffer .entry)) (now (buffer .exit)) r ⌝ }
     ensures typed { λ r. ⌜ Minutes (now (minutes .entry)) ⌝ }
 {
     writer::write(minutes, ordinates, slopes, curvatures, left, right, buffer)
@@ -101,7 +111,10 @@ pub extern "C" fn kaihveto_read(
     slopes: &mut [i32],
     curvatures: &mut [i32],
 ) -> card::Checked
-    ensures { λ r. ⌜ Reads (now (card .entry)) (lists (minutes .entry) (ordinates .entry) (slopes .entry) (curvatures .entry)) (lists (minutes .exit) (ordinates .exit) (slopes .exit) (curvatures .exit)) r ⌝ }
+    ensures { λ r. ⌜
+        Reads (now (card .entry))
+        (lists (minutes .entry) (ordinates .entry) (slopes .entry) (curvatures .entry))
+        (lists (minutes .exit) (ordinates .exit) (slopes .exit) (curvatures .exit)) r ⌝ }
 {
     card::read(card, minutes, ordinates, slopes, curvatures)
 }

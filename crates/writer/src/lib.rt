@@ -72,7 +72,10 @@ pub fn write(
     right: u16,
     buffer: &mut [u8],
 ) -> Written
-    ensures { λ r. ⌜ Writes (lent (now (minutes .entry)) (now (ordinates .entry)) (now (slopes .entry)) (now (curvatures .entry)) left right) (now (buffer .entry)) (now (buffer .exit)) r ⌝ }
+    ensures { λ r. ⌜
+        Writes
+        (lent (now (minutes .entry)) (now (ordinates .entry)) (now (slopes .entry)) (now (curvatures .entry)) left right)
+        (now (buffer .entry)) (now (buffer .exit)) r ⌝ }
 {
     let verdict = writable(
         minutes,
