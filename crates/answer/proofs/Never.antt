@@ -1,11 +1,11 @@
 -- Which step of an order refused: one that never refuses with a number was passed where that number is given.
 -- Assumes nothing.
-use mathlib.Core.Path.{_≡_, refl, ap, sym, subst}
+use mathlib.Core.Path.{_≡_, ap, sym, subst}
 use mathlib.Core.Logic.{_≢_}
 use mathlib.Core.Bool.{Bool, true, false}
 use Prim.Native.Nat.{ℕ, zero, suc, _+_, _<_}
 use native.Mathlib.Omega.{arith}
-use Rattle.answer.specs.Answer.{Answer, refused, given, Verdict, accepted, _then_, refuse, each, number}
+use Rattle.answer.specs.Answer.{Answer, refused, given, Verdict, _then_, refuse, each, number}
 
 -- an answer that is no refusal with n
 pub record Never {A : Type 0} (n : ℕ) (v : Answer A) : Type 0 where
@@ -51,8 +51,3 @@ passed (given u) b h e = e
 
 pub numbered-refuse : (m q : ℕ) (test : Bool) → 0 < m → Never 0 (refuse m q test)
 numbered-refuse m q test h = never-refuse 0 m q test (λ e. omega arith)
-
-pub zero-accepts : (v : Verdict) → Never 0 v → number v ≡ 0 → v ≡ accepted
-unfolding number
-zero-accepts (refused m p) h e = absurd (h .never p (ap (λ j. refused j p) e))
-zero-accepts (given u) h e = refl

@@ -6,15 +6,15 @@ use mathlib.Core.Path.{_≡_, refl, _∙_}
 use mathlib.Core.List.{List}
 use native.Mathlib.Omega.{arith}
 use lib.ListN.{length}
-use borrow.Author.Tests.{eq-eqb, le-ltb}
+use borrow.Author.Tests.{eq-eqb}
 use Rattle.answer.specs.Answer.{accepted, _then_}
 use Rattle.answer.proofs.Steps.{first-accepts, next-accepts, both-accept, accepts-refuse}
 use Rattle.front.proofs.Listed.{length-listed}
 use Rattle.bytes.specs.Numbers.{Bytes}
 use Rattle.curve.specs.Kind.{Kind}
 use Rattle.curve.specs.Card.{Card, knots}
-use Rattle.curve.specs.Steps.{lengths, counted, size, room}
-use Rattle.curve.specs.Orders.{verdict, card-order, write-order, reading-order, reading}
+use Rattle.curve.specs.Steps.{lengths, counted, size}
+use Rattle.curve.specs.Orders.{verdict, card-order, reading-order, reading}
 use Rattle.curve.specs.Demand.{Demand3}
 use Rattle.curve.proofs.Accepted.{good}
 use Rattle.curve.proofs.Demand3.{demand-3}
@@ -79,10 +79,6 @@ module _ (K : Kind) (head : ℕ) where
 
     pub accepted-size : length s ≡ size (knots (card-of s))
     accepted-size = rw (knots-of s) (whole-size accepted-whole)
-
-    pub writer-accepts : write-order K (card-of s) (length s) ≡ accepted
-    unfolding write-order room
-    writer-accepts = both-accept accepted-card (accepts-refuse 26 0 (le-ltb (length s) (size (knots (card-of s))) (omega (arith, accepted-size))))
 
     -- ---- demand 3 of the bytes
 

@@ -1,7 +1,7 @@
--- The page is of something: Table 3's card is accepted by the writer, its bytes by the card test and by a reading, and it is within half a unit of an exact solution.
+-- The page is of something: Table 3's card is accepted by the writer, its bytes by the card test, the reader and a reading, and it is within half a unit of an exact solution.
 -- Assumes nothing.
-use mathlib.Core.Path.{_≡_, refl, sym, ap, subst, _∙_}
-use mathlib.Core.List.{List, []}
+use mathlib.Core.Path.{_≡_, refl, sym, ap, subst}
+use mathlib.Core.List.{List}
 use Prim.Native.Nat.{ℕ, zero, suc}
 use native.Mathlib.Omega.{arith}
 use borrow.Author.Tests.{le-ltb}
@@ -25,10 +25,12 @@ use Rattle.card_bytes.specs.Records.{card-verdict}
 use Rattle.card_bytes.proofs.Table3.{table-3-bytes}
 use Rattle.card_bytes.proofs.Sizes.{length-card}
 use Rattle.card.specs.Answers.{own, checked, read-off}
-use Rattle.writer.specs.Promise.{written, Writes}
+use Rattle.card.specs.Promise.{Lists, into}
+use Rattle.writer.specs.Promise.{written}
 use Rattle.kaihveto.specs.Types.{Minutes}
-use Rattle.demands.specs.Calls.{A-write, A-check, A-reading}
-use Rattle.demands.specs.Demands.{Is-given, On-the-card, Half-a-unit}
+use Rattle.demands.specs.Calls.{A-write, A-check, A-read, A-reading}
+use Rattle.demands.specs.Demands.{Is-given, Room-for, On-the-card, Half-a-unit}
+use Rattle.demands.proofs.RoundTrip.{takes}
 use Rattle.demands.proofs.Written.{card-bytes}
 use Rattle.demands.proofs.Demands.{hold as hold-all}
 
@@ -78,6 +80,14 @@ writes : write-order quintic p1 (length bytes) ≡ accepted
 unfolding write-order room
 writes = both-accept card-accepted (accepts-refuse 26 0 (le-ltb (length bytes) (size (knots p1)) (omega (arith, length-card quintic-head p1))))
 
+-- Table 3's own lists, lent to be read into
+abbrev places-for : Lists
+places-for = record { minutes = p1 .minutes; ordinates = p1 .ordinates; slopes = p1 .slopes; curvatures = p1 .curvatures }
+
+room-for : Room-for (knots p1) places-for
+unfolding p1 table-3 knots
+room-for = record { minutes = lit≤ tt; ordinates = refl; slopes = refl; curvatures = refl }
+
 module _ (lifetime : Lft) (pointer : ℕ × ℕ) (name : GName) where
   abbrev list : {A : Type 0} → List A → RefT (List A)
   list l = record { ptr = pointer; name = name; now = l }
@@ -114,3 +124,29 @@ module _ (lifetime : Lft) (pointer : ℕ × ℕ) (name : GName) where
   pub write-accepts : write-call .answer .number ≡ 0
   unfolding written
   write-accepts = ap (λ v. written v (size (knots p1)) .number) writes
+
+  -- into lists of just the card's places
+  abbrev pub read-call : A-read
+  read-call =
+      let v = into places-for bytes in
+      let c = card-of bytes in
+      record {
+        lifetimes = (lifetime, (lifetime, (lifetime, (lifetime, (lifetime, tt)))));
+        arguments = (list bytes, (list (p1 .minutes), (list (p1 .ordinates), (list (p1 .slopes), (list (p1 .curvatures), tt)))));
+        answer = checked v c;
+        exit = (
+          list bytes,
+          (
+            list (lent-after v (c .minutes) (p1 .minutes)),
+            (
+              list (lent-after v (c .ordinates) (p1 .ordinates)),
+              (list (lent-after v (c .slopes) (p1 .slopes)), (list (lent-after v (c .curvatures) (p1 .curvatures)), tt)),
+            ),
+          ),
+        );
+        promised = record { answer = refl; minutes = refl; ordinates = refl; slopes = refl; curvatures = refl };
+      }
+
+  pub read-accepts : read-call .answer .number ≡ 0
+  unfolding checked
+  read-accepts = ap (λ v. checked v (card-of bytes) .number) (takes (read-call .promised) bytes-accepted (subst (λ c. Room-for (knots c) places-for) (sym (table-3-bytes .2)) room-for))

@@ -7,7 +7,7 @@ use lib.IntN.{pos}
 use Rattle.whole.specs.Whole.{nearest}
 use Rattle.answer.specs.Answer.{Answer, refused, given}
 use Rattle.answer.proofs.Steps.{next-accepts}
-use Rattle.curve.specs.Log.{Mean, count, sum, long, readable, some-good, mean-of, mean}
+use Rattle.curve.specs.Log.{Mean, count, sum, mean-of, mean}
 use Rattle.log.specs.declared.Mean.{Mean as Answered}
 use Rattle.log.specs.Answers.{answered}
 use Rattle.fit.specs.Fit.{card-of}

@@ -8,9 +8,8 @@ use mathlib.Core.List.{List}
 use native.Mathlib.Decide.{decLt}
 use native.Mathlib.Omega.{arith}
 use lib.Dec.{T, lit<, lit≤, eqb, eqb-refl, T-not}
-use lib.IntN.{ℤ}
 use lib.ListN.{length, getD}
-use Rattle.answer.specs.Answer.{Answer, Verdict, given, accepted, number, refuse}
+use Rattle.answer.specs.Answer.{accepted, number, refuse}
 use Rattle.answer.proofs.Never.{Never, never-number, never-then, never-each, never-refuse, given-never}
 use Rattle.curve.specs.Kind.{quintic}
 use Rattle.curve.specs.Card.{Card, knots, knot, gap}
@@ -18,7 +17,7 @@ use Rattle.curve.specs.Reading.{Reading, gap-of}
 use Rattle.curve.specs.Steps.{lengths, counted, codes, stands, in-range, smooth, outside, room}
 use Rattle.curve.specs.Orders.{numbers-sound, sound, verdict, card-order, lists-order, write-order, reading-order, reading}
 use Rattle.curve.specs.Demand.{Close, On-gap, numbers, Demand3}
-use Rattle.curve.proofs.Accepted.{Good, good}
+use Rattle.curve.proofs.Accepted.{good}
 use Rattle.curve.proofs.Gap.{IsGap, gap-is}
 use Rattle.curve.proofs.NeverTen.{quintic-enough, smooth-there}
 use Rattle.lists.specs.declared.CardReading.{CardReading}
@@ -26,7 +25,7 @@ use Rattle.lists.specs.Lists.{answered}
 use Rattle.card_bytes.specs.Bytes.{quintic-head}
 use Rattle.card_bytes.specs.Held.{card-of}
 use Rattle.card_bytes.specs.Records.{due, head-due, knot-due, end-due, records-due, card-verdict}
-use Rattle.card_bytes.proofs.RoundTrip.{accepted-card, demand-3-of-bytes, reads-its-card}
+use Rattle.card_bytes.proofs.RoundTrip.{demand-3-of-bytes, reads-its-card}
 use Rattle.card.specs.Answers.{own, read-off}
 use Rattle.card.specs.Promise.{Lists, into}
 use Rattle.demands.specs.Demands.{On-the-card, A-gap, Half-a-unit}

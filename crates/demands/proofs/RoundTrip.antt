@@ -1,6 +1,6 @@
 -- Demand 2 of cards: what was written is accepted and read back, and accepted bytes are those that the writer makes of what the reader gives.
 -- Assumes nothing.
-use Prim.Native.Nat.{ℕ, _≤_, _<_, _^_}
+use Prim.Native.Nat.{ℕ, _≤_, _<_}
 use mathlib.Core.Path.{_≡_, refl, sym, ap, subst, _∙_}
 use mathlib.Core.List.{List, _++_}
 use native.Mathlib.Decide.{decLt}
@@ -36,7 +36,7 @@ use Rattle.writer.specs.Promise.{written, Writes}
 use Rattle.kaihveto.specs.Types.{Minutes}
 use Rattle.demands.specs.Demands.{Accepts-as, Room-for, front}
 use Rattle.demands.proofs.Numbered.{accepts}
-use Rattle.demands.proofs.Answered.{read-answers, write-answers, long-as-the-card}
+use Rattle.demands.proofs.Answered.{write-answers, long-as-the-card}
 
 -- ---- numbers of their types
 

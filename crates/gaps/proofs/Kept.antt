@@ -6,7 +6,7 @@ use mathlib.Core.Bool.{Bool, cond}
 use Prim.Native.Nat.{ℕ, zero, suc, _+_, _≤_, _^_}
 use native.Mathlib.Omega.{arith}
 use lib.Dec.{T, ltb}
-use lib.IntN.{ℤ, pos, natAbs}
+use lib.IntN.{pos, natAbs}
 use lib.Signed.{_≤ℤ_, _<ℤ_}
 use Rattle.whole.proofs.Order.{linear, ≤ℤ-or, abs-neg}
 use Rattle.whole.proofs.Solve.{both-l, both-r}

@@ -6,7 +6,7 @@ use lib.IntN.{ℤ}
 use Rattle.curve.specs.Formula.{Formula}
 use Rattle.curve.specs.Curve.{Order, third, fourth, allowance}
 use Rattle.curve.specs.Kind.{Spot, quintic, quintic-asks}
-use Rattle.curve.specs.Steps.{counted, stands, slope-beyond, curvature-beyond, in-range}
+use Rattle.curve.specs.Steps.{stands, slope-beyond, curvature-beyond, in-range}
 use Rattle.knots.specs.declared.Kind.{Kind as Carried}
 use Rattle.knots.specs.Kinds.{quintic-card, kind-of}
 
@@ -43,10 +43,6 @@ carried e = ap kind-of e ∙ quintic-is
 -- ---- steps that read only limits are the same for every kind
 
 module _ (k : Carried) where
-  pub counted-same : counted (kind-of k) ≡ counted quintic
-  unfolding counted
-  counted-same = refl
-
   pub stands-same : stands (kind-of k) ≡ stands quintic
   unfolding stands
   stands-same = refl

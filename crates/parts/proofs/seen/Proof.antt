@@ -10,7 +10,6 @@ use Rattle.whole.proofs.Linear.{abs-fits}
 use Rattle.whole.proofs.Solve.{:neg, v0 as y, v1 as m, v2 as k}
 use Rattle.whole.proofs.Machine.{Src, held, Ok, does, gave}
 use Rattle.gaps.specs.declared.Knot.{Knot}
-use Rattle.gaps.specs.Knots.{mirror}
 use Rattle.weights.specs.declared.Quantity.{Quantity}
 use Rattle.parts.specs.Parts.{seen}
 use Rattle.parts.proofs.seen.Statement.{statement}
