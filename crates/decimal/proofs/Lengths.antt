@@ -1,5 +1,6 @@
 -- How many bytes a number has in decimal, by its size: one below 10^k has at most k digits. Assumes nothing.
-use Prim.Native.Nat.{ℕ, zero, suc, _*_, _/_, _^_, _≤_, _<_}
+use Prim.Native.Nat.{ℕ, zero, suc, _+_, _*_, _/_, _^_, _≤_, _<_}
+use Prim.Native.String.{String}
 use mathlib.Core.Path.{_≡_, refl}
 use mathlib.Core.Bool.{Bool, true, false, cond}
 use mathlib.Core.List.{[], _∷_, _++_}
@@ -9,7 +10,7 @@ use lib.Dec.{ltb}
 use lib.IntN.{ℤ, pos, negsuc, natAbs}
 use lib.ListN.{length, length-append}
 use borrow.Author.Tests.{ltb-false}
-use Rattle.decimal.specs.Decimal.{digits, places, decimal, signed, field}
+use Rattle.decimal.specs.Decimal.{spelled, digits, places, decimal, signed, field, worded}
 use Rattle.decimal.proofs.Digits.{last}
 
 -- whatever number of places is looked at
@@ -26,6 +27,19 @@ length-digits (suc most) (suc k) n z h =
     go true t k p f = omega arith
     go false t zero p f = absurd (omega (arith, ltb-false n 10 t))
     go false t (suc k) p f = omega (arith, f (omega arith) (omega arith), length-append (digits most (n / 10)) (last n))
+
+few-digits : (k n : ℕ) → length (digits k n) ≤ k
+unfolding digits
+few-digits zero n = omega arith
+few-digits (suc k) n = go (ltb n 10) (few-digits k (n / 10))
+  where
+    go : (b : Bool) → length (digits k (n / 10)) ≤ k → length (cond b [] (digits k (n / 10)) ++ last n) ≤ suc k
+    go true h = omega arith
+    go false h = omega (arith, length-append (digits k (n / 10)) (last n))
+
+-- words and any number behind them
+pub length-worded : (words : String) (n : ℕ) → length (worded words n) ≤ length (spelled words) + places
+length-worded words n = omega (arith, length-append (spelled words) (decimal n), few-digits places n)
 
 module _ (k : ℕ) (some : 0 < k) where
   pub length-decimal : (n : ℕ) → n < 10 ^ k → length (decimal n) ≤ k

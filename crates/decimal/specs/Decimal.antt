@@ -1,6 +1,6 @@
 -- Words and numbers as bytes: the numbers in decimal, with a minus where they are negative.
 -- Assumes nothing.
-use Prim.Native.Nat.{ℕ, zero, suc, _+_, _/_, _%_}
+use Prim.Native.Nat.{ℕ, zero, suc, _+_, _-_, _*_, _/_, _%_}
 use Prim.Native.String.{String, [] as empty, _∷_ as _before_}
 use Prim.Native.Char.{code}
 use mathlib.Core.Bool.{cond}
@@ -24,6 +24,14 @@ places = 20
 
 abbrev pub decimal : ℕ → List ℕ
 decimal n = digits places n
+
+-- what digits are worth, behind others that are worth a
+unfoldable pub value-from : ℕ → List ℕ → ℕ
+value-from a [] = a
+value-from a (d ∷ ds) = value-from (10 * a + (d - 48)) ds
+
+abbrev pub value : List ℕ → ℕ
+value ds = value-from 0 ds
 
 abbrev pub minus : ℕ
 minus = 45

@@ -1,0 +1,25 @@
+-- `text::Ordinate::of` meets its contract, by the sign. Assumes nothing.
+use mathlib.Core.Path.{sym, ap, _∙_}
+use borrow.Author.Needs.{needs}
+use Rattle.numeral.specs.Number.{natural, below, ordinate}
+use Rattle.numeral.proofs.Numbers.{starts-some}
+use Rattle.numeral.proofs.Ordinate.of.Statement.{statement}
+use Rattle.numeral.proofs.Ordinate.of.Tie as tie
+
+from-requires : tie.Need-from-requires
+from-requires c κs = starts-some _ _ (sym (c .before .starts .ensures) ∙ c .if1 .taken)
+
+returns : tie.Need-returns
+unfolding ordinate
+returns c =
+    let q = c .before .before in
+    rw (sym (q .before .starts .ensures) ∙ q .if1 .taken) (c .below .ensures ∙ ap (λ w. below (natural 32768 w)) (c .before .from .ensures))
+
+returns-2 : tie.Need-returns-2
+unfolding ordinate
+returns-2 c = rw (sym (c .before .before .starts .ensures) ∙ c .before .if1 .left) (c .above .ensures)
+
+pub of-spec : {M : Type 1} → statement M
+of-spec =
+    tie.close
+    (tie.spec (λ c κs. search needs) from-requires (λ c κs. search needs) returns (λ c κs. search needs) returns-2)

@@ -1,0 +1,4 @@
+pub mod Stops
+pub mod Words
+pub mod Numbered
+pub mod Unmarked

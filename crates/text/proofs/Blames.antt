@@ -1,0 +1,45 @@
+-- The word for which a line is refused, as the code finds it.
+-- Assumes nothing.
+use Prim.Native.Nat.{ℕ, zero, suc, _-_, _≤_, _<_}
+use mathlib.Core.Path.{_≡_, refl}
+use mathlib.Core.List.{List, [], _∷_}
+use native.Mathlib.Omega.{arith}
+use lib.ListN.{length, getD}
+use Rattle.split.specs.Parts.{until, past, lines, words, bare}
+use Rattle.numeral.specs.Number.{natural}
+use Rattle.text.specs.Sheet.{blamed-of, blamed-by, blamed}
+use Rattle.split.specs.declared.Mark.the-variants.{Blank, Word}
+use Rattle.split.proofs.Words.{no-word}
+use Rattle.text.proofs.Lines.{one, two, three}
+
+none-left : (s : List ℕ) → length s ≡ 0 → s ≡ []
+none-left [] e = refl
+none-left (b ∷ s) e = absurd (omega arith)
+
+module _ (s : List ℕ) {f : List ℕ} (first : f ≡ past Word s) where
+  pub blames-none : length f ≡ 0 → f ≡ blamed-by (words s)
+  unfolding blamed-by
+  blames-none e = rw (no-word s (rw first at e)) (none-left f e)
+
+  module _ (some : length f ≡ 0 → ⊥) {g : List ℕ} (second : g ≡ past Word (past Blank f)) where
+    pub blames-one : length g ≡ 0 → until Blank f ≡ blamed-by (words s)
+    unfolding blamed-by
+    blames-one e = rw (one s first some second, no-word (past Blank f) (rw second at e))
+
+    module _ (more : length g ≡ 0 → ⊥) {h : List ℕ} (third : h ≡ past Word (past Blank g)) where
+      pub blames-two : length h ≤ 0 → blamed-of (natural 65535 (until Blank f)) (until Blank f) (until Blank g) ≡ blamed-by (words s)
+      unfolding blamed-by
+      blames-two l = let e : length h ≡ 0 = omega arith in rw (two s first some second more third, no-word (past Blank g) (rw third at e))
+
+      pub blames-three : 0 < length h → until Blank h ≡ blamed-by (words s)
+      unfolding blamed-by
+      blames-three l = rw (three s first some second more third l)
+
+pub blames-line : (s : List ℕ) (n : ℕ) → (n ≡ 0 → ⊥) → blamed-by (words (bare (getD (lines s) (n - 1) []))) ≡ blamed s n
+unfolding blamed
+blames-line s zero z = absurd (z refl)
+blames-line s (suc n) z = let e : suc n - 1 ≡ n = omega arith in rw e
+
+pub blames-no-line : (s : List ℕ) (n : ℕ) → n ≡ 0 → [] ≡ blamed s n
+unfolding blamed
+blames-no-line s n z = rw z

@@ -1,0 +1,6 @@
+pub mod Lines
+pub mod Blames
+pub mod Readings
+pub mod Room
+pub mod Written
+pub mod Examples

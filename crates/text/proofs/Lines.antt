@@ -1,0 +1,44 @@
+-- A line by its words, as the code finds them one after the other.
+-- Assumes nothing.
+use Prim.Native.Nat.{ℕ, _≤_, _<_}
+use mathlib.Core.Path.{_≡_, ap, _∙_}
+use mathlib.Core.List.{List, _∷_}
+use native.Mathlib.Omega.{arith}
+use lib.ListN.{length}
+use Rattle.split.specs.Parts.{until, past, words}
+use Rattle.text.specs.Sheet.{too-few, too-many, knot, line-by}
+use Rattle.split.specs.declared.Mark.the-variants.{Blank, Word}
+use Rattle.text.specs.declared.Line.the-variants.{Empty, Refused}
+use Rattle.split.proofs.Words.{no-word, next-word}
+
+-- f is from the first word on, g from the second, h from the third
+module _ (s : List ℕ) {f : List ℕ} (first : f ≡ past Word s) where
+  pub no-words : length f ≡ 0 → Empty ≡ line-by (words s)
+  unfolding line-by
+  no-words e = rw (no-word s (rw first at e))
+
+  module _ (some : length f ≡ 0 → ⊥) {g : List ℕ} (second : g ≡ past Word (past Blank f)) where
+    pub one : words s ≡ until Blank f ∷ words (past Blank f)
+    one = let l : 0 < length f = omega arith in rw first (next-word s (rw first at l))
+
+    pub one-word : length g ≡ 0 → Refused too-few ≡ line-by (words s)
+    unfolding line-by
+    one-word e = rw (one, no-word (past Blank f) (rw second at e))
+
+    module _ (more : length g ≡ 0 → ⊥) {h : List ℕ} (third : h ≡ past Word (past Blank g)) where
+      pub two : words s ≡ until Blank f ∷ until Blank g ∷ words (past Blank g)
+      two =
+          let l : 0 < length g = omega arith in
+          let e : words (past Blank f) ≡ until Blank g ∷ words (past Blank g) = rw second (next-word (past Blank f) (rw second at l)) in
+          one ∙ ap (λ ws. until Blank f ∷ ws) e
+
+      pub two-words : length h ≤ 0 → knot (until Blank f) (until Blank g) ≡ line-by (words s)
+      unfolding line-by
+      two-words l = let e : length h ≡ 0 = omega arith in rw (two, no-word (past Blank g) (rw third at e))
+
+      pub three-words : 0 < length h → Refused too-many ≡ line-by (words s)
+      unfolding line-by
+      three-words l = rw (two, next-word (past Blank g) (rw third at l))
+
+      pub three : 0 < length h → words s ≡ until Blank f ∷ until Blank g ∷ until Blank h ∷ words (past Blank h)
+      three l = two ∙ ap (λ ws. until Blank f ∷ until Blank g ∷ ws) (rw third (next-word (past Blank g) (rw third at l)))

@@ -1,0 +1,96 @@
+-- A sheet: its lines in order up to the first that is wrong, and no further than the 65th knot.
+-- Assumes nothing.
+use Prim.Native.Nat.{ℕ, zero, suc, _+_}
+use mathlib.Core.Bool.{Bool, cond, _&&_}
+use mathlib.Core.List.{List, [], _∷_}
+use lib.Dec.{ltb, eqb}
+use lib.IntN.{pos}
+use lib.ListN.{length, getD, set, replicate}
+use Rattle.split.specs.Parts.{lines, bare, words}
+use Rattle.numeral.specs.Number.{natural, ordinate}
+use Rattle.numeral.specs.declared.Number.{Number}
+use Rattle.numeral.specs.declared.Number.the-variants.{Whole, Bad}
+use Rattle.numeral.specs.declared.Ordinate.{Ordinate}
+use Rattle.numeral.specs.declared.Ordinate.the-variants.{Given, Wrong}
+use Rattle.text.specs.declared.Line.{Line}
+use Rattle.text.specs.declared.Line.the-variants.{Empty, Knot, Refused}
+use Rattle.text.specs.declared.Sheet.{Sheet}
+
+abbrev pub too-few : ℕ
+too-few = 4
+
+abbrev pub too-many : ℕ
+too-many = 5
+
+abbrev pub too-long : ℕ
+too-long = 6
+
+-- the minute is looked at first
+unfoldable pub knot-by : Number → Ordinate → Line
+knot-by (Bad wrong) y = Refused wrong
+knot-by (Whole x) (Wrong wrong) = Refused wrong
+knot-by (Whole x) (Given y) = Knot x y
+
+abbrev pub knot : List ℕ → List ℕ → Line
+knot x y = knot-by (natural 65535 x) (ordinate y)
+
+unfoldable pub line-by : List (List ℕ) → Line
+line-by [] = Empty
+line-by (x ∷ []) = Refused too-few
+line-by (x ∷ y ∷ []) = knot x y
+line-by (x ∷ y ∷ z ∷ ws) = Refused too-many
+
+unfoldable pub line : List ℕ → Line
+line l = line-by (words (bare l))
+
+-- the word for which a line is refused: the first that is no number, or the first too many
+unfoldable pub blamed-of : Number → List ℕ → List ℕ → List ℕ
+blamed-of (Bad wrong) x y = x
+blamed-of (Whole n) x y = y
+
+unfoldable pub blamed-by : List (List ℕ) → List ℕ
+blamed-by [] = []
+blamed-by (x ∷ []) = x
+blamed-by (x ∷ y ∷ []) = blamed-of (natural 65535 x) x y
+blamed-by (x ∷ y ∷ z ∷ ws) = z
+
+-- of line n, from 1
+unfoldable pub blamed : List ℕ → ℕ → List ℕ
+blamed s zero = []
+blamed s (suc n) = blamed-by (words (bare (getD (lines s) n [])))
+
+abbrev pub most : ℕ
+most = 65
+
+-- zeros beside what is wrong
+unfoldable pub refused : ℕ → ℕ → Sheet
+refused wrong n =
+    record { wrong = wrong; line = n; knots = 0; minutes = replicate most 0; ordinates = replicate most (pos 0); lines = replicate most 0 }
+
+-- line n is taken: a knot goes behind those that stand
+unfoldable pub taken : Sheet → ℕ → Line → Sheet
+taken s n Empty = s
+taken s n (Refused wrong) = refused wrong n
+taken s n (Knot x y) =
+    record {
+      wrong = 0;
+      line = 0;
+      knots = s .knots + 1;
+      minutes = set (s .minutes) (s .knots) x;
+      ordinates = set (s .ordinates) (s .knots) y;
+      lines = set (s .lines) (s .knots) n;
+    }
+
+unfoldable pub goes-on : Sheet → Bool
+goes-on s = eqb (s .wrong) 0 && ltb (s .knots) most
+
+-- the lines from line n on
+unfoldable pub read : Sheet → ℕ → List (List ℕ) → Sheet
+read s n [] = s
+read s n (l ∷ ls) = cond (goes-on s) (read (taken s n (line l)) (suc n) ls) s
+
+abbrev pub longest : ℕ
+longest = 65535
+
+unfoldable pub sheet : List ℕ → Sheet
+sheet s = cond (ltb longest (length s)) (refused too-long 0) (read (refused 0 0) 1 (lines s))

@@ -1,0 +1,170 @@
+// A sheet as text: a line is a knot, its minute and its ordinate. Any bytes, of any length, are answered.
+use numeral::Number;
+use numeral::Ordinate;
+use split::Mark;
+ghost use mathlib.Core.Path.{_≡_};
+ghost use Prim.Native.Nat.{_<_};
+ghost use Rattle.split.specs.Parts.{words};
+ghost use Rattle.text.specs.Sheet.{blamed-by, blamed, knot, line-by, line, most, refused, taken, sheet};
+
+// What a line is.
+pub enum Line {
+    Empty,
+    Knot(u16, i16),
+    Refused(u32),
+}
+
+impl Line {
+    pub const TOO_FEW: u32 = 4;
+
+    pub const TOO_MANY: u32 = 5;
+
+    fn knot(minute: &[u8], ordinate: &[u8]) -> Line
+        ensures { λ r. ⌜ r ≡ knot (now (minute .entry)) (now (ordinate .entry)) ⌝ }
+    {
+        match Number::natural(minute, 65535) {
+            Number::Bad(wrong) => Line::Refused(wrong),
+            Number::Whole(x) => match Ordinate::of(ordinate) {
+                Ordinate::Wrong(wrong) => Line::Refused(wrong),
+                Ordinate::Given(y) => Line::Knot(x as u16, y),
+            },
+        }
+    }
+
+    fn of_words(text: &[u8]) -> Line
+        ensures { λ r. ⌜ r ≡ line-by (words (now (text .entry))) ⌝ }
+    {
+        let first = split::past(Mark::Word, text);
+        if first.len() == 0 {
+            return Line::Empty;
+        }
+        let second = split::past(Mark::Word, split::past(Mark::Blank, first));
+        if second.len() == 0 {
+            return Line::Refused(Line::TOO_FEW);
+        }
+        let third = split::past(Mark::Word, split::past(Mark::Blank, second));
+        if 0 < third.len() {
+            return Line::Refused(Line::TOO_MANY);
+        }
+        Line::knot(
+            split::until(Mark::Blank, first),
+            split::until(Mark::Blank, second),
+        )
+    }
+
+    fn of(text: &[u8]) -> Line
+        ensures { λ r. ⌜ r ≡ line (now (text .entry)) ⌝ }
+    {
+        Line::of_words(split::until(Mark::Note, text))
+    }
+}
+
+fn blamed_word(text: &[u8]) -> &[u8]
+    ensures { λ r. ⌜ now r ≡ blamed-by (words (now (text .entry))) ⌝ }
+{
+    let first = split::past(Mark::Word, text);
+    if first.len() == 0 {
+        return first;
+    }
+    let second = split::past(Mark::Word, split::past(Mark::Blank, first));
+    if second.len() == 0 {
+        return split::until(Mark::Blank, first);
+    }
+    let third = split::past(Mark::Word, split::past(Mark::Blank, second));
+    if 0 < third.len() {
+        return split::until(Mark::Blank, third);
+    }
+    let minute = split::until(Mark::Blank, first);
+    match Number::natural(minute, 65535) {
+        Number::Bad(_) => minute,
+        Number::Whole(_) => split::until(Mark::Blank, second),
+    }
+}
+
+// The word for which the line of that number, from 1, is refused.
+pub fn blamed(text: &[u8], line: u32) -> &[u8]
+    ensures { λ r. ⌜ now r ≡ blamed (now (text .entry)) line ⌝ }
+{
+    if line == 0 {
+        return split::from(text, text.len());
+    }
+    blamed_word(split::until(Mark::Note, split::line_at(text, line - 1)))
+}
+
+// What is wrong and on which line, or 0 and 0; how many knots there are, and at the front of three arrays their numbers and the line of each.
+pub struct Sheet {
+    pub wrong: u32,
+    pub line: u32,
+    pub knots: usize,
+    pub minutes: [u16; Sheet::MOST],
+    pub ordinates: [i16; Sheet::MOST],
+    pub lines: [u32; Sheet::MOST],
+}
+
+impl Sheet {
+    // One more than a card has, so that 2 can be told.
+    pub const MOST: usize = 65;
+
+    // One byte less than a large buffer has, so that a longer text can be told.
+    pub const LONGEST: usize = 65535;
+
+    pub const TOO_LONG: u32 = 6;
+
+    fn refused(wrong: u32, line: u32) -> Sheet
+        ensures { λ r. ⌜ r ≡ refused wrong line ⌝ }
+    {
+        Sheet {
+            wrong,
+            line,
+            knots: 0,
+            minutes: [0; Sheet::MOST],
+            ordinates: [0; Sheet::MOST],
+            lines: [0; Sheet::MOST],
+        }
+    }
+
+    fn taken(self, line: u32, found: Line) -> Sheet
+        requires { ⌜ self .knots < most ⌝ }
+        ensures { λ r. ⌜ r ≡ taken self line found ⌝ }
+    {
+        match found {
+            Line::Empty => self,
+            Line::Refused(wrong) => Sheet::refused(wrong, line),
+            Line::Knot(x, y) => {
+                let knots = self.knots;
+                let mut minutes = self.minutes;
+                let mut ordinates = self.ordinates;
+                let mut lines = self.lines;
+                minutes[knots] = x;
+                ordinates[knots] = y;
+                lines[knots] = line;
+                Sheet {
+                    wrong: 0,
+                    line: 0,
+                    knots: knots + 1,
+                    minutes,
+                    ordinates,
+                    lines,
+                }
+            }
+        }
+    }
+
+    pub fn read(text: &[u8]) -> Sheet
+        ensures { λ r. ⌜ r ≡ sheet (now (text .entry)) ⌝ }
+    {
+        if Sheet::LONGEST < text.len() {
+            return Sheet::refused(Sheet::TOO_LONG, 0);
+        }
+        let mut sheet = Sheet::refused(0, 0);
+        let mut line: u32 = 1;
+        let mut at: usize = 0;
+        while sheet.wrong == 0 && sheet.knots < Sheet::MOST && at <= text.len() {
+            let found = split::until(Mark::LineEnd, split::from(text, at));
+            sheet = sheet.taken(line, Line::of(found));
+            line += 1;
+            at = at + found.len() + 1;
+        }
+        sheet
+    }
+}

@@ -1,0 +1,77 @@
+-- The sentences, each at the place of its number: document 01, "Numbers of refusal", with what to do about each; and what can be wrong in the text of a sheet (crate `text`).
+-- README's table is this one. Assumes nothing.
+use Prim.Native.Nat.{ℕ}
+use Prim.Native.String.{String}
+use mathlib.Core.List.{List, [], _∷_, _++_}
+use lib.ListN.{getD, replicate}
+use Rattle.decimal.specs.Decimal.{spelled}
+use Rattle.words.specs.declared.Table.{Table}
+use Rattle.words.specs.declared.Table.the-variants.{Refusals, Places, Remedies, Wrongs}
+
+-- what is wrong, what its place counts where it has one, and what to do
+pub record Row : Type 0 where
+  pub what : String
+  pub place : String
+  pub remedy : String
+
+abbrev row : String → String → String → Row
+row what place remedy = record { what = what; place = place; remedy = remedy }
+
+-- acceptance, and a number that no refusal has
+abbrev pub no-refusal : Row
+no-refusal = row "" "" ""
+
+-- 0 to 16; no refusal has a number from 17 to 25; 26
+abbrev pub refusals : List Row
+refusals =
+    (no-refusal
+    ∷ row "fewer than 3 knots" "" "give more logs"
+    ∷ row "more than 64 knots" "" "leave knots out, or make two cards"
+    ∷ row "lent lists differ in length" "" "the program that calls is wrong: it has to lend lists of one length"
+    ∷ row "minute is not above the one before" "knot" "two logs start at the same minute, or the sheet is out of order: look at that knot"
+    ∷ row "more than 60 minutes lie between this knot and the one before" "knot" "a log is missing before that knot"
+    ∷ row "ordinate is beyond 20000 hundredths either way" "knot" "look at that knot's number: 100 % is 10000"
+    ∷ row "number given for this end is no number, or beyond 256 either way" "knot" "give the end's slope and curvature in hundredths per minute (squared), not in card units"
+    ∷ row "elimination met a zero or a number that is not finite" "knot" "no input is known that does this: keep the sheet and report it"
+    ∷ row "slope or curvature is beyond 1048576 card units" "knot" "the curve is too steep there: knots too close for so large a step; or a number on the card was changed"
+    ∷ row "third or fourth derivative jumps by more than is allowed" "knot" "the numbers at or beside that knot do not belong together, most often since one was changed: make the card anew; if a fit says it, keep the sheet and report it"
+    ∷ row "minute is outside the card" "" "it is before the first knot or after the last; the last log's own hour is not on the card"
+    ∷ row "log byte is from 201 to 254" "byte" "the log is damaged at that byte"
+    ∷ row "log has no good byte" "" "the sensor was dead: leave this log out"
+    ∷ row "record is cut short, of the wrong kind or length, or bytes follow the end" "byte" "the file is damaged there, or is another kind of file"
+    ∷ row "code of this end (0 left, 1 right) is not 0, 1 or 2" "end" "the card is damaged or comes from a newer program, or the calling program gave a wrong code"
+    ∷ row "log has not 1 to 60 bytes" "" "cut a longer log to one hour, leave out an empty one"
+    ∷ [])
+    ++ replicate 9 no-refusal
+    ++ (row "lent buffer or lists are too short" "" "lend 14 + 16n bytes, or n places" ∷ [])
+
+-- what is wrong with a word of a sheet's text, or with the whole of it
+abbrev pub wrongs : List String
+wrongs =
+    ""
+    ∷ "is not a whole number; hundredths are whole: write 550 for 5.5 %"
+    ∷ "has a zero or a sign too many: write 50 for 050, and 0 for -0"
+    ∷ "is too large: a minute is at most 65535, an ordinate from -32768 to 32767"
+    ∷ "stands alone: a knot is a minute and an ordinate"
+    ∷ "is one word too many: a knot is a minute and an ordinate"
+    ∷ "is longer than 65535 bytes: no sheet is"
+    ∷ []
+
+-- one of the columns
+abbrev pub column : (Row → String) → List Row → List String
+column of [] = []
+column of (r ∷ rs) = of r ∷ column of rs
+
+abbrev pub strings : Table → List String
+strings Refusals = column (λ r. r .what) refusals
+strings Places = column (λ r. r .place) refusals
+strings Remedies = column (λ r. r .remedy) refusals
+strings Wrongs = wrongs
+
+-- nothing for a number that has no row
+unfoldable pub sentence : Table → ℕ → List ℕ
+sentence t n = spelled (getD (strings t) n "")
+
+-- no sentence is longer
+abbrev pub longest : ℕ
+longest = 200
