@@ -1,0 +1,46 @@
+-- The reply, by what the reading of a sheet and the fit answer.
+-- Assumes nothing.
+use Prim.Native.Nat.{ℕ}
+use mathlib.Core.Path.{_≡_, sym, ap}
+use mathlib.Core.List.{List}
+use lib.IntN.{ℤ, pos}
+use lib.ListN.{take, replicate}
+use borrow.Author.Tests.{eq-eqb, ne-eqb}
+use Rattle.answer.specs.Answer.{Answer, number, place}
+use Rattle.curve.specs.Card.{Card}
+use Rattle.fit.specs.declared.Fitted.{Fitted}
+use Rattle.fit.specs.Promise.{Fits}
+use Rattle.text.specs.declared.Sheet.{Sheet}
+use Rattle.text.specs.Sheet.{most, sheet, blamed as blamed-word}
+use Rattle.words.specs.Said.{refused-line, wrong-line}
+use Rattle.reply.specs.Reply.{blamed, Reply, refusing, listing-of, reply-of, fit-reply, reply, Answers}
+use Rattle.reply.specs.declared.Answered.{Answered}
+
+pub answers-as : {p q : Reply} {to to′ card′ : List ℕ} {r : Answered} → p ≡ q → Answers p to to′ card′ r → Answers q to to′ card′ r
+answers-as e h = rw e at h
+
+module _ {f : Answer Card} {ms Ms ms′ Ms′ : List ℤ} {r : Fitted} (h : Fits f ms Ms ms′ Ms′ r) (xs : List ℕ) (ys : List ℤ) (lines card : List ℕ) where
+  its-number : number f ≡ r .number
+  its-number = sym (ap (λ a. a .number) (h .answer))
+
+  its-place : place f ≡ r .place
+  its-place = sym (ap (λ a. a .place) (h .answer))
+
+  pub replies-refused : (r .number ≡ 0 → ⊥) → refusing (refused-line (r .number) (r .place) (blamed lines (r .number) (r .place))) card ≡ reply-of f xs ys ms Ms lines card
+  unfolding reply-of
+  replies-refused z = rw (its-number, its-place, ne-eqb (r .number) 0 z)
+
+  pub replies-done : r .number ≡ 0 → listing-of xs ys ms′ Ms′ card ≡ reply-of f xs ys ms Ms lines card
+  unfolding reply-of
+  replies-done z = rw (its-number, eq-eqb (r .number) 0 z, h .slopes, h .curvatures)
+
+module _ (s : List ℕ) {a : Sheet} (e : a ≡ sheet s) (card : List ℕ) where
+  pub replies-wrong : (a .wrong ≡ 0 → ⊥) → refusing (wrong-line (a .wrong) (a .line) (blamed-word s (a .line))) card ≡ reply s card
+  unfolding reply
+  replies-wrong z = rw (← e, ne-eqb (a .wrong) 0 z)
+
+  pub replies-fit : a .wrong ≡ 0
+      → fit-reply (take (a .knots) (a .minutes)) (take (a .knots) (a .ordinates)) (take (a .knots) (replicate most (pos 0))) (take (a .knots) (replicate most (pos 0))) (a .lines) card
+      ≡ reply s card
+  unfolding reply
+  replies-fit z = rw (← e, eq-eqb (a .wrong) 0 z)

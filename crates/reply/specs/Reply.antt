@@ -1,0 +1,73 @@
+-- What the text of a sheet is answered with: what is said, the status, and the card's bytes.
+-- Assumes nothing.
+use Prim.Native.Nat.{ℕ}
+use mathlib.Core.Path.{_≡_}
+use mathlib.Core.Bool.{Bool, cond, _&&_}
+use mathlib.Core.List.{List}
+use lib.Dec.{ltb, eqb}
+use lib.IntN.{ℤ, pos}
+use lib.ListN.{length, take, getD, replicate}
+use Rattle.answer.specs.Answer.{Answer, number, place}
+use Rattle.answer.specs.Lent.{lent-after}
+use Rattle.curve.specs.Kind.{quintic}
+use Rattle.curve.specs.Card.{Card, knots}
+use Rattle.curve.specs.Steps.{size}
+use Rattle.curve.specs.Orders.{write-order}
+use Rattle.knots.specs.Lent.{lent}
+use Rattle.card_bytes.specs.Bytes.{quintic-head, bytes-of}
+use Rattle.writer.specs.Promise.{written}
+use Rattle.fit.specs.Fit.{fit}
+use Rattle.fit.specs.Promise.{slopes-after, curvatures-after}
+use Rattle.decimal.specs.Put.{Put}
+use Rattle.listing.specs.Text.{listing}
+use Rattle.text.specs.Sheet.{most, sheet, blamed as blamed-word}
+use Rattle.words.specs.Said.{refused-line, wrong-line}
+use Rattle.reply.specs.declared.Answered.{Answered}
+
+-- the place of 4 to 10 is a knot
+abbrev pub of-a-knot : ℕ → Bool
+of-a-knot number = ltb 3 number && ltb number 11
+
+-- the line of the knot that is refused; 0 where no knot is
+unfoldable pub blamed : List ℕ → ℕ → ℕ → ℕ
+blamed lines number knot = cond (of-a-knot number) (getD lines knot 0) 0
+
+-- the words, the status '0' or '1', the buffer for the card and the card's size
+pub record Reply : Type 0 where
+  pub words : List ℕ
+  pub status : ℕ
+  pub card : List ℕ
+  pub size : ℕ
+
+unfoldable pub refusing : List ℕ → List ℕ → Reply
+refusing words card = record { words = words; status = 49; card = card; size = 0 }
+
+-- the listing, and the card with free ends
+unfoldable pub listing-of : (xs : List ℕ) (ys ms Ms : List ℤ) → List ℕ → Reply
+listing-of xs ys ms Ms card =
+    let c = lent xs ys ms Ms 0 0 in
+    let order = write-order quintic c (length card) in
+    record { words = listing 0 0 xs ys ms Ms; status = 48; card = lent-after order (bytes-of quintic-head c) card; size = written order (size (knots c)) .bytes }
+
+-- of a fit between these knots, which stand on these lines, and whose slopes and curvatures go over two lent lists
+unfoldable pub reply-of : Answer Card → (xs : List ℕ) (ys ms Ms : List ℤ) (lines card : List ℕ) → Reply
+reply-of f xs ys ms Ms lines card =
+    cond (eqb (number f) 0) (listing-of xs ys (slopes-after f ms) (curvatures-after f Ms) card)
+    (refusing (refused-line (number f) (place f) (blamed lines (number f) (place f))) card)
+
+abbrev pub fit-reply : (xs : List ℕ) (ys ms Ms : List ℤ) (lines card : List ℕ) → Reply
+fit-reply xs ys ms Ms lines card = reply-of (fit xs ys (length ms) (length Ms)) xs ys ms Ms lines card
+
+unfoldable pub reply : List ℕ → List ℕ → Reply
+reply s card =
+    let a = sheet s in
+    let n = a .knots in
+    let zeros = take n (replicate most (pos 0)) in
+    cond (eqb (a .wrong) 0) (fit-reply (take n (a .minutes)) (take n (a .ordinates)) zeros zeros (a .lines) card) (refusing (wrong-line (a .wrong) (a .line) (blamed-word s (a .line))) card)
+
+-- the reply was given: its words were put into a buffer, its card stands in another
+pub record Answers (p : Reply) (to to′ card′ : List ℕ) (r : Answered) : Type 0 where
+  pub said : Put (p .words) to to′ 0 (r .length)
+  pub status : r .status ≡ p .status
+  pub card : card′ ≡ p .card
+  pub size : r .card ≡ p .size
