@@ -6,7 +6,7 @@ ghost use lib.ListN.{length};
 ghost use Rattle.decimal.specs.Put.{Put};
 ghost use Rattle.listing.specs.Text.{knot-line, ok-line, refused-line, line-of, listing, Lines};
 
-fn knot_line(text: &mut [u8], at: usize, x: u16, y: i16, m: i32, c: i32) -> usize
+pub fn knot_line(text: &mut [u8], at: usize, x: u16, y: i32, m: i32, c: i32) -> usize
     requires { ⌜ at + length (knot-line x y m c) ≤ length (now text) ⌝ }
     ensures { λ r. ⌜ Put (knot-line x y m c) (now (text .entry)) (now (text .exit)) at r ⌝ }
 {
@@ -35,7 +35,7 @@ fn knot_lines(
             text,
             next,
             minutes[i],
-            ordinates[i],
+            ordinates[i] as i32,
             slopes[i],
             curvatures[i],
         );

@@ -4,7 +4,7 @@ use mathlib.Core.List.{_++_}
 use native.Mathlib.Omega.{arith}
 use lib.IntN.{pos}
 use lib.ListN.{length}
-use mir.Syntax.{w16, w32, w64}
+use mir.Syntax.{w32, w64}
 use mir.Facts.{toZ-pos}
 use denote.Ref.{now}
 use Rattle.decimal.specs.Put.{Put}
@@ -27,13 +27,13 @@ by-y : (c : tie.After-put-field2)
     → (let a = c .before .before .before .before .before .before .before .args in
     Put (field (pos (a .x)) space ++ field (a .y) space) (now (a .text)) (c .put-field2 .last .0) (a .at) (c .put-field2 .result))
 by-y c =
-    put-then (by-x (c .before .before .before .before)) (rw (widened w16 tt (c .before .before .before .before .before .before .before .fits .y)) at (c .put-field2 .ensures))
+    put-then (by-x (c .before .before .before .before)) (rw (widened w32 w64 tt (c .before .before .before .before .before .before .before .fits .y)) at (c .put-field2 .ensures))
 
 by-m : (c : tie.After-put-field3)
     → (let a = c .before .before .before .before .before .before .before .before .before .before .before .args in
     Put (field (pos (a .x)) space ++ field (a .y) space ++ field (a .m) space) (now (a .text)) (c .put-field3 .last .0) (a .at) (c .put-field3 .result))
 by-m c =
-    put-then (by-y (c .before .before .before .before)) (rw (widened w32 tt (c .before .before .before .before .before .before .before .before .before .before .before .fits .m)) at (c .put-field3 .ensures))
+    put-then (by-y (c .before .before .before .before)) (rw (widened w32 w64 tt (c .before .before .before .before .before .before .before .before .before .before .before .fits .m)) at (c .put-field3 .ensures))
 
 room-before-c : (c : tie.Start)
     → (let a = c .args in
@@ -58,38 +58,38 @@ put-field-requires c κs =
     (room-before (field (pos x) space) (field (a .args .y) space) (a .args .at) (room-before-m a))
 
 cast-put-field-2 : tie.Need-cast-put-field-2
-cast-put-field-2 c = wide w16 tt (c .before .before .before .before .before .before .fits .y)
+cast-put-field-2 c = wide w32 w64 tt (c .before .before .before .before .before .before .fits .y)
 
 put-field-requires-2 : tie.Need-put-field-requires-2
 put-field-requires-2 c κs =
     let q = c .before .before .before in
     let a = q .before .before .before in
-    rw (widened w16 tt (a .fits .y)) (room-behind (by-x q) (field (a .args .y) space) (room-before-m a))
+    rw (widened w32 w64 tt (a .fits .y)) (room-behind (by-x q) (field (a .args .y) space) (room-before-m a))
 
 cast-put-field-3 : tie.Need-cast-put-field-3
-cast-put-field-3 c = wide w32 tt (c .before .before .before .before .before .before .before .before .before .before .fits .m)
+cast-put-field-3 c = wide w32 w64 tt (c .before .before .before .before .before .before .before .before .before .before .fits .m)
 
 put-field-requires-3 : tie.Need-put-field-requires-3
 put-field-requires-3 c κs =
     let q = c .before .before .before in
     let a = q .before .before .before .before .before .before .before in
-    rw (widened w32 tt (a .fits .m)) (room-behind (by-y q) (field (a .args .m) space) (room-before-c a))
+    rw (widened w32 w64 tt (a .fits .m)) (room-behind (by-y q) (field (a .args .m) space) (room-before-c a))
 
 cast-put-field-4 : tie.Need-cast-put-field-4
-cast-put-field-4 c = wide w32 tt (c .before .before .before .before .before .before .before .before .before .before .before .before .before .before .fits .c)
+cast-put-field-4 c = wide w32 w64 tt (c .before .before .before .before .before .before .before .before .before .before .before .before .before .before .fits .c)
 
 put-field-requires-4 : tie.Need-put-field-requires-4
 unfolding knot-line
 put-field-requires-4 c κs =
     let q = c .before .before .before in
     let a = q .before .before .before .before .before .before .before .before .before .before .before in
-    rw (widened w32 tt (a .fits .c)) (room-behind (by-m q) (field (a .args .c) line-feed) (a .pre))
+    rw (widened w32 w64 tt (a .fits .c)) (room-behind (by-m q) (field (a .args .c) line-feed) (a .pre))
 
 returns : tie.Need-returns
 unfolding knot-line
 returns c =
     let q = c .before .before .before .before .before .before in
-    put-then (by-m q) (rw (widened w32 tt (q .before .before .before .before .before .before .before .before .before .before .before .fits .c)) at (c .before .before .put-field4 .ensures))
+    put-then (by-m q) (rw (widened w32 w64 tt (q .before .before .before .before .before .before .before .before .before .before .before .fits .c)) at (c .before .before .put-field4 .ensures))
 
 pub knot-line-spec : {M : Type 1} → statement M
 knot-line-spec =

@@ -11,6 +11,7 @@ use denote.Ref.{now}
 use Rattle.bytes.proofs.Signs.{passed}
 use Rattle.listing.specs.Text.{knot-line, lines, line-of, Lines}
 use Rattle.decimal.proofs.Puts.{put-none, put-then, same-room}
+use Rattle.decimal.proofs.Widths.{wide, widened}
 use Rattle.listing.proofs.Lengths.{length-knot-line}
 use borrow.Author.Needs.{needs}
 use Rattle.listing.proofs.knot_lines.Statement.{statement}
@@ -31,13 +32,13 @@ loop-holds c = (omega arith, record { put = put-none (omega arith); short = omeg
 line-is : (c : tie.After-knot-line-arg4 Inv-loop μ-loop)
     → (let a = c .before .before .before .before .before .before .before .before .before .args in
     let i = c .before .before .before .before .before .before .loop .i in
-    knot-line (getD (now (a .minutes)) i 0) (toZ w16 (ofZ w16 (getD (now (a .ordinates)) i (pos 0)))) (toZ w32 (ofZ w32 (getD (now (a .slopes)) i (pos 0)))) (toZ w32 (ofZ w32 (getD (now (a .curvatures)) i (pos 0))))
+    knot-line (getD (now (a .minutes)) i 0) (toZ w32 (ofZ w32 (toZ w16 (ofZ w16 (getD (now (a .ordinates)) i (pos 0)))))) (toZ w32 (ofZ w32 (getD (now (a .slopes)) i (pos 0)))) (toZ w32 (ofZ w32 (getD (now (a .curvatures)) i (pos 0))))
     ≡ line-of (now (a .minutes)) (now (a .ordinates)) (now (a .slopes)) (now (a .curvatures)) i)
 unfolding line-of
 line-is c =
     let a = c .before .before .before .before .before .before .before .before .before .args in
     let i = c .before .before .before .before .before .before .loop .i in
-    let y = passed w16 (getD (now (a .ordinates)) i (pos 0)) (c .before .before .knot-line-arg2 .given) in
+    let y = widened w16 w32 tt {z = getD (now (a .ordinates)) i (pos 0)} (record { sfits = c .before .before .knot-line-arg2 .given }) in
     let m = passed w32 (getD (now (a .slopes)) i (pos 0)) (c .before .knot-line-arg3 .given) in
     let M = passed w32 (getD (now (a .curvatures)) i (pos 0)) (c .knot-line-arg4 .given) in
     rw (y, m, M)
@@ -52,6 +53,10 @@ line-short c =
     let m = c .before .knot-line-arg3 .given in
     let M = c .knot-line-arg4 .given in
     length-knot-line _ _ _ _ (omega arith) (record { sfits = omega arith }) (record { sfits = m }) (record { sfits = M })
+
+cast-knot-line : tie.Need-cast-knot-line Inv-loop μ-loop
+cast-knot-line c =
+    wide w16 w32 tt {z = getD (now (c .before .before .before .before .before .before .before .args .ordinates)) (c .before .before .before .before .loop .i) (pos 0)} (record { sfits = c .knot-line-arg2 .given })
 
 knot-line-requires : tie.Need-knot-line-requires Inv-loop μ-loop
 knot-line-requires c κs =
@@ -87,6 +92,7 @@ knot-lines-spec =
     (λ c. search needs)
     (λ c. search needs)
     (λ c. search needs)
+    cast-knot-line
     (λ c. search needs)
     (λ c. search needs)
     (λ c. search needs)

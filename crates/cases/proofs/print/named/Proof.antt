@@ -6,7 +6,7 @@ use Rattle.cases.proofs.print.named.Statement.{statement}
 use Rattle.cases.proofs.print.named.Tie as tie
 
 cast-magnitude : tie.Need-cast-magnitude
-cast-magnitude c = wide w32 tt (c .before .before .before .fits .number)
+cast-magnitude c = wide w32 w64 tt (c .before .before .before .fits .number)
 
 pub named-spec : {M : Type 1} → statement M
 named-spec =

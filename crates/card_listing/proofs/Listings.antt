@@ -8,7 +8,7 @@ use lib.Seq.{take-at}
 use native.Mathlib.Omega.{arith}
 use lib.Dec.{ltb}
 use borrow.Author.Tests.{le-ltb}
-use Rattle.answer.specs.Answer.{Verdict, refused, given, accepted, _then_, refuse}
+use Rattle.answer.specs.Answer.{Verdict, refused, given, accepted, number, place, _then_, refuse}
 use Rattle.answer.proofs.Steps.{accepts-refuse}
 use Rattle.curve.specs.Kind.{quintic}
 use Rattle.curve.specs.Card.{knots}
@@ -24,7 +24,7 @@ use Rattle.answer.specs.Lent.{lent-after}
 use Rattle.card.specs.Answers.{own, checked}
 use Rattle.card.specs.Promise.{Lists, into, Reads}
 use Rattle.listing.specs.Text.{listing}
-use Rattle.lister.specs.Printed.{card-listing, printed}
+use Rattle.card_listing.specs.Printed.{card-listing, printed}
 
 pub held : (s : List ℕ) → own s ≡ accepted → Good quintic (card-of s)
 held s e = good quintic (card-of s) (accepted-card quintic quintic-head s e)
@@ -49,6 +49,14 @@ module _ (s : List ℕ) {l : Lists} (roomy : Roomy l) where
   module _ {exit : Lists} {r : Checked} (reads : Reads s l exit r) where
     is-own : r ≡ checked (own s) (card-of s)
     is-own = reads .answer ∙ ap (λ v. checked v (card-of s)) into-own
+
+    pub own-number : (r .number ≡ number (own s)) × (r .place ≡ place (own s))
+    unfolding checked number place
+    own-number = rw is-own (go (own s))
+      where
+        go : (v : Verdict) → (checked v (card-of s) .number ≡ number v) × (checked v (card-of s) .place ≡ place v)
+        go (refused number place) = (refl, refl)
+        go (given u) = (refl, refl)
 
     pub few : r .knots ≤ most
     unfolding checked quintic

@@ -1,4 +1,4 @@
--- `lister::list_card` meets its contract, by what the reading of the card answers. Assumes nothing.
+-- `card_listing::list_card` meets its contract, by what the reading of the card answers. Assumes nothing.
 use Prim.Native.Nat.{_≤_}
 use mathlib.Core.Path.{_∙_, refl, sym}
 use native.Mathlib.Omega.{arith}
@@ -7,10 +7,10 @@ use lib.ListN.{length, replicate}
 use lib.Seq.{length-take-le}
 use denote.Ref.{now}
 use Rattle.decode.specs.Decoded.{most}
-use Rattle.lister.proofs.Listings.{Roomy, few, printed-read}
+use Rattle.card_listing.proofs.Listings.{Roomy, few, printed-read, own-number}
 use borrow.Author.Needs.{needs}
-use Rattle.lister.proofs.list_card.Statement.{statement}
-use Rattle.lister.proofs.list_card.Tie as tie
+use Rattle.card_listing.proofs.list_card.Statement.{statement}
+use Rattle.card_listing.proofs.list_card.Tie as tie
 
 zeros : Roomy (record { minutes = replicate most 0; ordinates = replicate most (pos 0); slopes = replicate most (pos 0); curvatures = replicate most (pos 0) })
 zeros = record { minutes = refl; ordinates = refl; slopes = refl; curvatures = refl }
@@ -69,8 +69,8 @@ list-requires c κs =
 returns : tie.Need-returns
 returns c =
     let q = c .before .before .before .before .before .before .before .before .before .before .before .before .before in
-    rw (sym (printed-read (now (q .before .before .before .before .before .before .before .args .card)) zeros (q .read .ensures)))
-    (c .before .before .list .ensures)
+    let s = now (q .before .before .before .before .before .before .before .args .card) in
+    (rw (sym (printed-read s zeros (q .read .ensures))) (c .before .before .list .ensures), own-number s zeros (q .read .ensures))
 
 pub list-card-spec : {M : Type 1} → statement M
 list-card-spec =
