@@ -11,6 +11,8 @@ use lib.Seq.{drop-at, drop-length}
 use Rattle.answer.specs.Answer.{Answer, refused, given, Verdict, accepted, number, place}
 use Rattle.answer.specs.Lent.{lent-after}
 use Rattle.answer.proofs.Never.{Never}
+use Rattle.front.specs.Front.{listed}
+use Rattle.front.proofs.Listed.{length-listed}
 use Rattle.curve.specs.Kind.{quintic}
 use Rattle.curve.specs.Card.{Card, knots}
 use Rattle.curve.specs.Log as Log
@@ -32,12 +34,17 @@ use Rattle.card.specs.declared.Checked.{Checked}
 use Rattle.card.specs.Answers.{own, checked, read-off}
 use Rattle.card.specs.Promise.{Lists, into, Reads}
 use Rattle.card.proofs.Lists.{taken}
+use Rattle.table.specs.declared.Tabled.{Tabled}
+use Rattle.table.specs.Table.{count, tabled}
+use Rattle.table.specs.Promise.{Columns, table-verdict, rows, Tables}
+use Rattle.table.proofs.Tables.{took}
+use Rattle.table.proofs.Readings.{count-is}
 use Rattle.writer.specs.declared.Written.{Written}
 use Rattle.writer.specs.Promise.{written, Writes}
 use Rattle.writer.proofs.Ready.{ready-of}
 use Rattle.demands.specs.Calls.{Fitting, the-fit}
 use Rattle.demands.specs.Demands.{Is-given, Says, Spares, No-card, Fit-says, Fit-spares}
-use Rattle.demands.proofs.Numbered.{says, accepts, mean-numbered, fit-numbered, write-numbered, card-numbered, into-numbered, reading-numbered}
+use Rattle.demands.proofs.Numbered.{says, accepts, mean-numbered, fit-numbered, write-numbered, card-numbered, into-numbered, reading-numbered, table-numbered}
 
 -- ---- lent lists
 
@@ -193,3 +200,31 @@ reading-answers s minute e =
     let v = reading-order (own s) (card-of s) minute in
     let f = reading-fields v in
     subst (λ r. Says v (r .number) (r .place) × No-reading r) (sym e) (says v (reading-numbered s minute) (f .0) (f .1), f .2)
+
+-- ---- a table
+
+module _ {s : List ℕ} {from : ℕ} {entry exit : Columns} {r : Tabled} (tables : Tables s from entry exit r) where
+  table-fields : (v : Verdict) (k : ℕ) → (let r = tabled v k in (r .number ≡ number v) × (r .place ≡ place v) × (r .number ≢ 0 → r .count ≡ 0))
+  unfolding tabled number place
+  table-fields (refused n p) k = (refl, refl, λ h. refl)
+  table-fields (given u) k = (refl, refl, λ h. absurd (h refl))
+
+  pub table-answers : Says (table-verdict entry s from) (r .number) (r .place) × (r .number ≢ 0 → r .count ≡ 0)
+  table-answers =
+      let v = table-verdict entry s from in
+      let f = table-fields v (rows entry s from) in
+      subst (λ r. Says v (r .number) (r .place) × (r .number ≢ 0 → r .count ≡ 0)) (sym (tables .answer)) (says v (table-numbered entry s from) (f .0) (f .1), f .2)
+
+  pub table-spares :
+      Spares (r .number) (r .count) (entry .values) (exit .values)
+      × Spares (r .number) (r .count) (entry .slopes) (exit .slopes)
+      × Spares (r .number) (r .count) (entry .curvatures) (exit .curvatures)
+  unfolding rows count
+  table-spares = (
+    spares _ _ (table-answers .0) (tables .values) (λ a. (long _ a, omega (arith, count-is tables a))),
+    spares _ _ (table-answers .0) (tables .slopes) (λ a. (long _ a, omega (arith, count-is tables a, took entry s from a .slopes))),
+    spares _ _ (table-answers .0) (tables .curvatures) (λ a. (long _ a, omega (arith, count-is tables a, took entry s from a .curvatures))),
+  )
+    where
+      long : (f : ℕ → ℤ) → table-verdict entry s from ≡ accepted → length (listed f (rows entry s from)) ≡ r .count
+      long f a = length-listed f (rows entry s from) ∙ sym (count-is tables a)

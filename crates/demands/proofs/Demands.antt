@@ -1,6 +1,8 @@
 -- The page holds: each demand, of every call of the functions of the boundary, by their promises.
 -- Assumes nothing.
 use mathlib.Core.Path.{_≡_, sym, ap, ap₂, subst, _∙_}
+use mathlib.Core.List.{List}
+use Prim.Native.Nat.{ℕ}
 use lib.ListN.{length}
 use Rattle.answer.specs.Answer.{accepted}
 use Rattle.answer.proofs.Never.{given-never}
@@ -10,14 +12,15 @@ use Rattle.card_bytes.specs.Bytes.{quintic-head}
 use Rattle.card_bytes.specs.Held.{card-of}
 use Rattle.card_bytes.proofs.RoundTrip.{accepted-card}
 use Rattle.card.specs.Answers.{own, read-off}
+use Rattle.table.specs.Promise.{table-verdict, Tables}
 use Rattle.exact_fit.proofs.Solution.{one-exact}
-use Rattle.demands.specs.Calls.{A-fit, A-fit-between, without-ends, between-ends, buffer, A-check, checked-bytes, read-bytes, places, reading-bytes, minute, first-minute, log}
+use Rattle.demands.specs.Calls.{A-fit, A-fit-between, without-ends, between-ends, buffer, A-check, checked-bytes, read-bytes, places, reading-bytes, minute, A-table, table-bytes, from, lists-for, lists-for′, first-minute, log}
 use Rattle.demands.specs.Demands.{Fit-says, Room-for, Off, Demand-1, Demand-2, Demand-3, Demands}
 use Rattle.demands.proofs.Numbered.{accepts, codes-numbered}
-use Rattle.demands.proofs.Answered.{mean-answers, fit-says, fit-spares, check-answers, read-answers, read-spares, write-answers, write-spares, reading-answers}
+use Rattle.demands.proofs.Answered.{mean-answers, fit-says, fit-spares, check-answers, read-answers, read-spares, write-answers, write-spares, reading-answers, table-answers, table-spares}
 use Rattle.demands.proofs.Given.{eliminates, stated}
 use Rattle.demands.proofs.RoundTrip.{written-accepted, written-held, accepts-its-card, takes, reads-its-card, made-again}
-use Rattle.demands.proofs.Off.{stands-on-a-gap, of-card, close, at-knots, written-never, checked-never, read-never, read-off-never}
+use Rattle.demands.proofs.Off.{stands-on-a-gap, of-card, close, at-knots, on-its-card, in-table, table-counted, written-never, checked-never, read-never, read-off-never, table-never}
 
 -- ---- 1
 
@@ -46,6 +49,9 @@ one =
       read-spares = λ c. read-spares (c .promised);
       reading = λ c. reading-answers (reading-bytes c) (minute c) (c .promised) .0;
       reading-zeros = λ c. reading-answers (reading-bytes c) (minute c) (c .promised) .1;
+      table = λ c. table-answers (c .promised) .0;
+      table-zeros = λ c. table-answers (c .promised) .1;
+      table-spares = λ c. table-spares (c .promised);
     }
 
 -- ---- 2
@@ -73,6 +79,13 @@ two =
 
 -- ---- 3
 
+-- a table of these bytes
+table-of : (t : A-table) {s : List ℕ} → table-bytes t ≡ s → Tables s (from t) (lists-for t) (lists-for′ t) (t .answer)
+table-of t same = subst (λ s. Tables s (from t) (lists-for t) (lists-for′ t) (t .answer)) same (t .promised)
+
+table-accepted : (t : A-table) {s : List ℕ} → table-bytes t ≡ s → t .answer .number ≡ 0 → table-verdict (lists-for t) s (from t) ≡ accepted
+table-accepted t same zero = accepts (table-answers (table-of t same) .0) zero
+
 off : (c : A-check) → c .answer .number ≡ 0 → Off (checked-bytes c)
 off c zero =
     let s = checked-bytes c in
@@ -81,6 +94,11 @@ off c zero =
       gaps = stands-on-a-gap (card-of s) (accepted-card quintic quintic-head s a);
       close = λ r same h. close s a (minute r) h (r .promised ∙ ap (λ s. read-off s (minute r)) same);
       at-knots = λ r same i l there. at-knots s a i l (r .promised ∙ ap₂ read-off same there);
+      tables = λ t same zero i l.
+          let tables = table-of t same in
+          let v = table-accepted t same zero in
+          (on-its-card s a tables v i l, λ r again there. in-table s a tables v i l (r .promised ∙ ap₂ read-off again there));
+      table-counts = λ t same zero. table-counted s a (table-of t same) (table-accepted t same zero);
       jumps = of-card s a .jumps;
     }
 
@@ -92,6 +110,7 @@ three =
       check-never-10 = λ c half e. checked-never (checked-bytes c) half (sym (one .check c .number) ∙ e);
       read-never-10 = λ c half e. read-never (read-bytes c) half (places c) (sym (one .read c .number) ∙ e);
       reading-never-10 = λ c half e. read-off-never (reading-bytes c) half (minute c) (sym (one .reading c .number) ∙ e);
+      table-never-10 = λ c half e. table-never (table-bytes c) half (lists-for c) (from c) (sym (one .table c .number) ∙ e);
       exact-solution = one-exact;
     }
 

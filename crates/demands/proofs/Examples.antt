@@ -1,8 +1,8 @@
--- The page is of something: Table 3's card is accepted by the writer, its bytes by the card test, the reader and a reading, and it is within half a unit of an exact solution.
+-- The page is of something: Table 3's card is accepted by the writer, its bytes by the card test, the reader, a reading and a table, and it is within half a unit of an exact solution.
 -- Assumes nothing.
 use mathlib.Core.Path.{_≡_, refl, sym, ap, subst}
 use mathlib.Core.List.{List}
-use Prim.Native.Nat.{ℕ, zero, suc}
+use Prim.Native.Nat.{ℕ, zero, suc, _+_}
 use native.Mathlib.Omega.{arith}
 use borrow.Author.Tests.{le-ltb}
 use lib.Dec.{lit<, lit≤}
@@ -13,10 +13,12 @@ use denote.Ref.{RefT}
 use Rattle.answer.specs.Answer.{Answer, refused, given, accepted}
 use Rattle.answer.specs.Lent.{lent-after}
 use Rattle.answer.proofs.Steps.{not-both, first-accepts, next-accepts, both-accept, accepts-refuse}
+use Rattle.front.specs.Front.{listed}
 use Rattle.curve.specs.Kind.{quintic}
 use Rattle.curve.specs.Card.{knots, knot}
 use Rattle.curve.specs.Steps.{lengths, counted as counted′, codes, size, room}
 use Rattle.curve.specs.Orders.{verdict, card-order, write-order, reading-order, reading}
+use Rattle.curve.proofs.Gap.{card-in}
 use Rattle.curve.proofs.Cases.{table-3, p1, shown, value-slope, cases, hold}
 use Rattle.curve.proofs.Witness.{table-3-exact, table-3-near}
 use Rattle.card_bytes.specs.Bytes.{quintic-head, bytes-of}
@@ -26,9 +28,11 @@ use Rattle.card_bytes.proofs.Table3.{table-3-bytes}
 use Rattle.card_bytes.proofs.Sizes.{length-card}
 use Rattle.card.specs.Answers.{own, checked, read-off}
 use Rattle.card.specs.Promise.{Lists, into}
+use Rattle.table.specs.Table.{table-order, tabled}
+use Rattle.table.specs.Promise.{Columns, table-verdict, rows}
 use Rattle.writer.specs.Promise.{written}
 use Rattle.kaihveto.specs.Types.{Minutes}
-use Rattle.demands.specs.Calls.{A-write, A-check, A-read, A-reading}
+use Rattle.demands.specs.Calls.{A-write, A-check, A-read, A-reading, A-table}
 use Rattle.demands.specs.Demands.{Is-given, Room-for, On-the-card, Half-a-unit}
 use Rattle.demands.proofs.RoundTrip.{takes}
 use Rattle.demands.proofs.Written.{card-bytes}
@@ -87,6 +91,16 @@ places-for = record { minutes = p1 .minutes; ordinates = p1 .ordinates; slopes =
 room-for : Room-for (knots p1) places-for
 unfolding p1 table-3 knots
 room-for = record { minutes = lit≤ tt; ordinates = refl; slopes = refl; curvatures = refl }
+
+-- and its list of slopes for each column of a table
+abbrev columns-for : Columns
+columns-for = record { values = p1 .slopes; slopes = p1 .slopes; curvatures = p1 .slopes }
+
+tables : table-verdict columns-for bytes 4 ≡ accepted
+unfolding table-verdict table-order lengths p1 table-3 knots knot
+tables =
+    both-accept (accepts-refuse 3 0 refl)
+    (both-accept bytes-accepted (rw (table-3-bytes .2) (card-in (p1 .minutes) 4 (minute-4 .0) (minute-4 .1))))
 
 module _ (lifetime : Lft) (pointer : ℕ × ℕ) (name : GName) where
   abbrev list : {A : Type 0} → List A → RefT (List A)
@@ -150,3 +164,30 @@ module _ (lifetime : Lft) (pointer : ℕ × ℕ) (name : GName) where
   pub read-accepts : read-call .answer .number ≡ 0
   unfolding checked
   read-accepts = ap (λ v. checked v (card-of bytes) .number) (takes (read-call .promised) bytes-accepted (subst (λ c. Room-for (knots c) places-for) (sym (table-3-bytes .2)) room-for))
+
+  -- from minute 4 on
+  abbrev pub table-call : A-table
+  table-call =
+      let v = table-verdict columns-for bytes 4 in
+      let n = rows columns-for bytes 4 in
+      let column = list (p1 .slopes) in
+      record {
+        lifetimes = (lifetime, (lifetime, (lifetime, (lifetime, tt))));
+        arguments = (list bytes, (4, (column, (column, (column, tt)))));
+        answer = tabled v n;
+        exit = (
+          list bytes,
+          (
+            4,
+            (
+              list (lent-after v (listed (λ i. read-off bytes (4 + i) .value) n) (p1 .slopes)),
+              (list (lent-after v (listed (λ i. read-off bytes (4 + i) .slope) n) (p1 .slopes)), (list (lent-after v (listed (λ i. read-off bytes (4 + i) .curvature) n) (p1 .slopes)), tt)),
+            ),
+          ),
+        );
+        promised = record { answer = refl; values = refl; slopes = refl; curvatures = refl };
+      }
+
+  pub table-accepts : table-call .answer .number ≡ 0
+  unfolding tabled
+  table-accepts = ap (λ v. tabled v (rows columns-for bytes 4) .number) tables

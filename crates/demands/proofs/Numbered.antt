@@ -23,6 +23,8 @@ use Rattle.card_bytes.specs.Held.{card-of}
 use Rattle.card_bytes.specs.Records.{due, head-due, knot-due, end-due, records-due, card-verdict}
 use Rattle.card.specs.Answers.{own}
 use Rattle.card.specs.Promise.{Lists, into}
+use Rattle.table.specs.Table.{table-order}
+use Rattle.table.specs.Promise.{Columns, table-verdict}
 use Rattle.demands.specs.Demands.{Is-given, Says}
 
 -- ---- steps
@@ -106,6 +108,10 @@ into-numbered l s = never-then (lengths-numbered _ _ _ _) (never-then (card-numb
 pub reading-numbered : (s : List ℕ) (minute : ℕ) → Never 0 (reading-order (own s) (card-of s) minute)
 unfolding reading-order outside
 reading-numbered s minute = never-then (card-numbered s) (never-then (numbered-refuse 11 0 _ (lit< tt)) given-never)
+
+pub table-numbered : (l : Columns) (s : List ℕ) (from : ℕ) → Never 0 (table-verdict l s from)
+unfolding table-verdict table-order outside
+table-numbered l s from = never-then (lengths-numbered _ _ _ _) (never-then (card-numbered s) (numbered-refuse 11 0 _ (lit< tt)))
 
 -- ---- what an answer with an order's number says
 

@@ -1,6 +1,6 @@
 -- Demand 3 of bytes that the card test accepts, and of what is read off them; and that no card within half a unit of an exact solution is refused for a jump, by whatever function.
 -- Assumes nothing.
-use Prim.Native.Nat.{ℕ, _+_, _-_, _≤_, _<_}
+use Prim.Native.Nat.{ℕ, _+_, _-_, _≤_, _<_, min}
 use mathlib.Core.Path.{_≡_, sym, ap, subst, _∙_}
 use mathlib.Core.Logic.{_≢_}
 use mathlib.Core.Bool.{Bool, not}
@@ -8,6 +8,7 @@ use mathlib.Core.List.{List}
 use native.Mathlib.Decide.{decLt}
 use native.Mathlib.Omega.{arith}
 use lib.Dec.{T, lit<, lit≤, eqb, eqb-refl, T-not}
+use lib.IntN.{pos}
 use lib.ListN.{length, getD}
 use Rattle.answer.specs.Answer.{accepted, number, refuse}
 use Rattle.answer.proofs.Never.{Never, never-number, never-then, never-each, never-refuse, given-never}
@@ -28,6 +29,10 @@ use Rattle.card_bytes.specs.Records.{due, head-due, knot-due, end-due, records-
 use Rattle.card_bytes.proofs.RoundTrip.{demand-3-of-bytes, reads-its-card}
 use Rattle.card.specs.Answers.{own, read-off}
 use Rattle.card.specs.Promise.{Lists, into}
+use Rattle.table.specs.declared.Tabled.{Tabled}
+use Rattle.table.specs.Table.{table-order, minutes-left}
+use Rattle.table.specs.Promise.{Columns, table-verdict, Tables}
+use Rattle.table.proofs.Readings.{count-is, minutes-inside, table-is-readings}
 use Rattle.demands.specs.Demands.{On-the-card, A-gap, Half-a-unit}
 
 -- ---- readings
@@ -75,6 +80,24 @@ module _ (s : List ℕ) (a : own s ≡ accepted) where
   pub at-knots : (i : ℕ) → i < knots c → {r : CardReading} → r ≡ read-off s (knot c i .x) → (r .number ≡ 0) × (three-of r ≡ numbers (knot c i))
   at-knots i l e = let is = reads (knot c i .x) e ∙ ap answered (of-card .at-knots i l) in (ap (λ a. a .number) is, ap three-of is)
 
+  -- the three numbers at a place of a table's lists
+  abbrev row-of : Columns → ℕ → Reading
+  row-of l i = record { value = getD (l .values) i (pos 0); slope = getD (l .slopes) i (pos 0); curvature = getD (l .curvatures) i (pos 0) }
+
+  module _ {from : ℕ} {entry exit : Columns} {t : Tabled} (tables : Tables s from entry exit t) (v : table-verdict entry s from ≡ accepted) where
+    pub on-its-card : (i : ℕ) → i < t .count → On-the-card c (from + i)
+    unfolding knots knot
+    on-its-card = minutes-inside tables v
+
+    pub in-table : (i : ℕ) → i < t .count → {r : CardReading} → r ≡ read-off s (from + i) → (r .number ≡ 0) × (row-of exit i ≡ three-of r)
+    in-table i l e =
+        let w = table-is-readings tables v i l in
+        (ap (λ r. r .number) e ∙ w .number, (λ j. record { value = w .value j; slope = w .slope j; curvature = w .curvature j }) ∙ ap three-of (sym e))
+
+    pub table-counted : t .count ≡ min (length (entry .values)) (knot c (knots c - 1) .x + 1 - from)
+    unfolding knots knot minutes-left
+    table-counted = count-is tables v
+
 -- ---- never 10
 
 other : (n p : ℕ) (test : Bool) → T (not (eqb n 10)) → Never 10 (refuse n p test)
@@ -116,3 +139,7 @@ module _ (s : List ℕ) (half : Half-a-unit (card-of s)) where
   pub read-off-never : (minute : ℕ) → number (reading-order (own s) (card-of s) minute) ≢ 10
   unfolding reading-order outside
   read-off-never minute = never-number _ (lit< tt) (never-then own-never (never-then (other 11 0 _ tt) given-never))
+
+  pub table-never : (l : Columns) (from : ℕ) → number (table-verdict l s from) ≢ 10
+  unfolding table-verdict table-order lengths outside
+  table-never l from = never-number _ (lit< tt) (never-then (other 3 0 _ tt) (never-then own-never (other 11 0 _ tt)))

@@ -1,9 +1,9 @@
--- Calls of the seven functions of the boundary (crates/kaihveto/src/lib.rt): what a function is called with, what it answers and what it leaves, by its promise as the prover reads it from the
+-- Calls of the eight functions of the boundary (crates/kaihveto/src/lib.rt): what a function is called with, what it answers and what it leaves, by its promise as the prover reads it from the
 -- source. What holds of every such call holds of the function. Assumes nothing.
 use Prim.Native.Nat.{ℕ}
 use mathlib.Core.List.{List}
-use lib.IntN.{ℤ}
-use lib.ListN.{length}
+use lib.IntN.{ℤ, pos}
+use lib.ListN.{length, getD}
 use denote.Ref.{now}
 use Rattle.answer.specs.Answer.{Answer, Verdict, accepted}
 use Rattle.curve.specs.Kind.{quintic}
@@ -17,6 +17,7 @@ use Rattle.ends.specs.Ends.{end-by}
 use Rattle.fit.specs.declared.Fitted.{Fitted}
 use Rattle.fit.specs.Fit.{fit-of}
 use Rattle.card.specs.Promise.{Lists, lists}
+use Rattle.table.specs.Promise.{Columns, columns}
 use Rattle.kaihveto.proofs.kaihveto_mean.Reads as mean
 use Rattle.kaihveto.proofs.kaihveto_fit.Reads as fit
 use Rattle.kaihveto.proofs.kaihveto_fit_ends.Reads as fit-ends
@@ -24,6 +25,7 @@ use Rattle.kaihveto.proofs.kaihveto_write.Reads as write
 use Rattle.kaihveto.proofs.kaihveto_check.Reads as check
 use Rattle.kaihveto.proofs.kaihveto_read.Reads as read
 use Rattle.kaihveto.proofs.kaihveto_reading.Reads as reading
+use Rattle.kaihveto.proofs.kaihveto_table.Reads as table
 
 -- a call that meets a promise: of lifetimes, arguments, the answer, and the parameters at exit
 pub record Call {K A X S : Type 0} (Post : K → A → X → S → Type 0) : Type 0 where
@@ -156,3 +158,24 @@ minute c = c .arguments .1 .0
 -- its three numbers
 abbrev pub three : A-reading → Reading
 three c = record { value = c .answer .value; slope = c .answer .slope; curvature = c .answer .curvature }
+
+-- ---- kaihveto_table(card, from, values, slopes, curvatures)
+
+abbrev pub A-table : Type 0
+A-table = Call table.Post
+
+abbrev pub table-bytes : A-table → List ℕ
+table-bytes c = now (c .arguments .0)
+
+abbrev pub from : A-table → ℕ
+from c = c .arguments .1 .0
+
+abbrev pub lists-for : A-table → Columns
+lists-for c = let a = c .arguments in columns (a .1 .1 .0) (a .1 .1 .1 .0) (a .1 .1 .1 .1 .0)
+
+abbrev pub lists-for′ : A-table → Columns
+lists-for′ c = let s = c .exit in columns (s .1 .1 .0) (s .1 .1 .1 .0) (s .1 .1 .1 .1 .0)
+
+-- the three numbers at a place of its lists at exit
+abbrev pub row : A-table → ℕ → Reading
+row c i = let l = lists-for′ c in record { value = getD (l .values) i (pos 0); slope = getD (l .slopes) i (pos 0); curvature = getD (l .curvatures) i (pos 0) }

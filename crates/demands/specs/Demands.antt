@@ -3,7 +3,7 @@
 use mathlib.Core.Path.{_≡_}
 use mathlib.Core.Logic.{_≢_}
 use mathlib.Core.List.{List}
-use Prim.Native.Nat.{ℕ, _+_, _-_, _*_, _≤_, _<_}
+use Prim.Native.Nat.{ℕ, _+_, _-_, _*_, _≤_, _<_, min}
 use lib.IntN.{ℤ, pos}
 use lib.ListN.{length, take, drop}
 use lib.Dec.{T}
@@ -28,7 +28,8 @@ use Rattle.card_bytes.specs.Held.{card-of}
 use Rattle.card.specs.declared.Checked.{Checked}
 use Rattle.card.specs.Answers.{own}
 use Rattle.card.specs.Promise.{Lists, into}
-use Rattle.demands.specs.Calls.{A-mean, first-minute, log, A-fit, A-fit-between, Fitting, without-ends, between-ends, the-fit, A-write, written-card, buffer, buffer′, A-check, checked-bytes, A-read, read-bytes, places, places′, A-reading, reading-bytes, minute, three}
+use Rattle.table.specs.Promise.{table-verdict}
+use Rattle.demands.specs.Calls.{A-mean, first-minute, log, A-fit, A-fit-between, Fitting, without-ends, between-ends, the-fit, A-write, written-card, buffer, buffer′, A-check, checked-bytes, A-read, read-bytes, places, places′, A-reading, reading-bytes, minute, three, A-table, table-bytes, from, lists-for, lists-for′, row}
 
 -- ---- 1. "Every input gets an answer: bad knots, logs, cards and minutes are refused by number and place, the numbers beside a refusal are zero, and lent memory stays untouched."
 
@@ -74,13 +75,16 @@ pub record Demand-1 : Type 0 where
   pub read : (c : A-read) → Says (into (places c) (read-bytes c)) (c .answer .number) (c .answer .place)
   -- the card's, then 11
   pub reading : (c : A-reading) → Says (reading-order (own (reading-bytes c)) (card-of (reading-bytes c)) (minute c)) (c .answer .number) (c .answer .place)
+  -- 3, the card's, 11
+  pub table : (c : A-table) → Says (table-verdict (lists-for c) (table-bytes c) (from c)) (c .answer .number) (c .answer .place)
   -- "the numbers beside a refusal are zero"
   pub mean-zeros : (c : A-mean) → c .answer .number ≢ 0 → (c .answer .minute ≡ 0) × (c .answer .ordinate ≡ pos 0) × (c .answer .good ≡ 0)
   pub write-zeros : (c : A-write) → c .answer .number ≢ 0 → c .answer .bytes ≡ 0
   pub check-zeros : (c : A-check) → No-card (c .answer)
   pub read-zeros : (c : A-read) → No-card (c .answer)
   pub reading-zeros : (c : A-reading) → c .answer .number ≢ 0 → (c .answer .value ≡ pos 0) × (c .answer .slope ≡ pos 0) × (c .answer .curvature ≡ pos 0)
-  -- "and lent memory stays untouched"; on acceptance only the n places or the card's bytes are written
+  pub table-zeros : (c : A-table) → c .answer .number ≢ 0 → c .answer .count ≡ 0
+  -- "and lent memory stays untouched"; on acceptance only the n places, the card's bytes or the places of the readings are written
   pub fit-spares : (c : A-fit) → Fit-spares (without-ends c)
   pub fit-between-spares : (c : A-fit-between) → Fit-spares (between-ends c)
   pub write-spares : (c : A-write) → Spares (c .answer .number) (c .answer .bytes) (buffer c) (buffer′ c)
@@ -89,6 +93,10 @@ pub record Demand-1 : Type 0 where
       × Spares (c .answer .number) (c .answer .knots) (places c .ordinates) (places′ c .ordinates)
       × Spares (c .answer .number) (c .answer .knots) (places c .slopes) (places′ c .slopes)
       × Spares (c .answer .number) (c .answer .knots) (places c .curvatures) (places′ c .curvatures)
+  pub table-spares : (c : A-table) →
+      Spares (c .answer .number) (c .answer .count) (lists-for c .values) (lists-for′ c .values)
+      × Spares (c .answer .number) (c .answer .count) (lists-for c .slopes) (lists-for′ c .slopes)
+      × Spares (c .answer .number) (c .answer .count) (lists-for c .curvatures) (lists-for′ c .curvatures)
 
 -- ---- 2. "The fit is exactly the elimination that the paper prescribes, each operation rounded once; logs give the stated mean; writing a sound card and reading it returns it, and
 -- accepted bytes are those that the writer makes."
@@ -160,6 +168,11 @@ pub record Off (s : List ℕ) : Type 0 where
   -- "at knots they are the card's own"
   pub at-knots : (r : A-reading) → reading-bytes r ≡ s → (i : ℕ) → i < knots (card-of s) → minute r ≡ knot (card-of s) i .x →
       (r .answer .number ≡ 0) × (three r ≡ numbers (knot (card-of s) i))
+  -- and so in a table: at each of its places is what is read at that minute of the card, as many minutes as the lists have places or as the card has left
+  pub tables : (t : A-table) → table-bytes t ≡ s → t .answer .number ≡ 0 → (i : ℕ) → i < t .answer .count →
+      On-the-card (card-of s) (from t + i) × ((r : A-reading) → reading-bytes r ≡ s → minute r ≡ from t + i → (r .answer .number ≡ 0) × (row t i ≡ three r))
+  pub table-counts : (t : A-table) → table-bytes t ≡ s → t .answer .number ≡ 0 →
+      t .answer .count ≡ min (length (lists-for t .values)) (knot (card-of s) (knots (card-of s) - 1) .x + 1 - from t)
   -- "third and fourth derivatives jump by no more than is allowed"
   pub jumps : (i : ℕ) → i + 2 < knots (card-of s) → (o : Order) → T (quintic .asks inner o) →
       Jump-within quintic o (knot (card-of s) i) (knot (card-of s) (i + 1)) (knot (card-of s) (i + 2))
@@ -177,6 +190,7 @@ pub record Demand-3 : Type 0 where
   pub check-never-10 : (c : A-check) → Half-a-unit (card-of (checked-bytes c)) → c .answer .number ≢ 10
   pub read-never-10 : (c : A-read) → Half-a-unit (card-of (read-bytes c)) → c .answer .number ≢ 10
   pub reading-never-10 : (c : A-reading) → Half-a-unit (card-of (reading-bytes c)) → c .answer .number ≢ 10
+  pub table-never-10 : (c : A-table) → Half-a-unit (card-of (table-bytes c)) → c .answer .number ≢ 10
   -- and there is one for every sheet that a fit takes up: the exact solution between the fit's own ends, rounded to card units
   pub exact-solution : (minutes : List ℕ) (ordinates : List ℤ) (left right : End) → before-8 minutes ordinates left right ≡ accepted → OneSolution minutes ordinates left right
 

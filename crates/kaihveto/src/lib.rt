@@ -12,6 +12,7 @@ ghost use Rattle.fit.specs.Promise.{Fits};
 ghost use Rattle.card_bytes.specs.Held.{card-of};
 ghost use Rattle.card.specs.Answers.{own, checked, read-off};
 ghost use Rattle.card.specs.Promise.{lists, Reads};
+ghost use Rattle.table.specs.Promise.{columns, Tables};
 ghost use Rattle.writer.specs.Promise.{Writes};
 ghost use Rattle.kaihveto.specs.Types.{Minutes};
 
@@ -125,4 +126,21 @@ pub extern "C" fn kaihveto_reading(card: &[u8], minute: u16) -> lists::CardReadi
     ensures { λ r. ⌜ r ≡ read-off (now (card .entry)) minute ⌝ }
 {
     card::reading(card, minute)
+}
+
+// What a card reads at the minutes from one on, at the front of three lists: 3, the card's, 11.
+#[no_mangle]
+pub extern "C" fn kaihveto_table(
+    card: &[u8],
+    from: u16,
+    values: &mut [i32],
+    slopes: &mut [i32],
+    curvatures: &mut [i32],
+) -> table::Tabled
+    ensures { λ r. ⌜
+        Tables (now (card .entry)) from
+        (columns (values .entry) (slopes .entry) (curvatures .entry))
+        (columns (values .exit) (slopes .exit) (curvatures .exit)) r ⌝ }
+{
+    table::table(card, from, values, slopes, curvatures)
 }

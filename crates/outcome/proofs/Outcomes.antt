@@ -65,6 +65,9 @@ use Rattle.card.specs.Promise.{Lists, Reads}
 use Rattle.card.proofs.check.Reads as check
 use Rattle.card.proofs.read.Reads as read
 use Rattle.card.proofs.reading.Reads as reading
+use Rattle.table.specs.declared.Tabled.{Tabled}
+use Rattle.table.specs.Promise.{Columns, Tables}
+use Rattle.table.proofs.table.Reads as table
 use Rattle.writer.specs.declared.Written.{Written}
 use Rattle.writer.specs.Promise.{Writes}
 use Rattle.writer.proofs.write.Reads as write
@@ -115,6 +118,7 @@ use Rattle.kaihveto.proofs.kaihveto_write.Reads as c-write
 use Rattle.kaihveto.proofs.kaihveto_check.Reads as c-check
 use Rattle.kaihveto.proofs.kaihveto_read.Reads as c-read
 use Rattle.kaihveto.proofs.kaihveto_reading.Reads as c-reading
+use Rattle.kaihveto.proofs.kaihveto_table.Reads as c-table
 use Rattle.outcome.specs.Once.{Leaves, Once, Lent}
 
 -- ---- the laws: a promise is an equation of what is left to the caller, or one of what an answer means, or several equations
@@ -168,6 +172,18 @@ module _ {K A S : Type 0} (bytes : K → A → List ℕ) (entry : K → A → Li
       (λ κs a x y s t p q. one-outcome (p .slopes) (q .slopes)),
       (λ κs a x y s t p q. one-outcome (p .curvatures) (q .curvatures)),
     ),
+  )
+
+module _ {K A S : Type 0} (bytes : K → A → List ℕ) (from : K → A → ℕ) (entry : K → A → Columns) (exit : S → Columns) where
+  abbrev Tabling : K → A → Tabled → S → Type 0
+  Tabling κs a x s = Tables (bytes κs a) (from κs a) (entry κs a) (exit s) x
+
+  tabling : Once Tabling × Lent Tabling (λ s. exit s .values) × Lent Tabling (λ s. exit s .slopes) × Lent Tabling (λ s. exit s .curvatures)
+  tabling = (
+    (λ κs a x y s t p q. one-outcome (p .answer) (q .answer)),
+    (λ κs a x y s t p q. one-outcome (p .values) (q .values)),
+    (λ κs a x y s t p q. one-outcome (p .slopes) (q .slopes)),
+    (λ κs a x y s t p q. one-outcome (p .curvatures) (q .curvatures)),
   )
 
 module _ {K A S : Type 0} (fit : K → A → Answer Card) (ms Ms : K → A → List ℤ) (ms′ Ms′ : S → List ℤ) where
@@ -248,6 +264,10 @@ card = (equation _ _, equation _ _)
 
 pub card-read : Once read.Post × Four (λ s. now (s .1 .0)) (λ s. now (s .1 .1 .0)) (λ s. now (s .1 .1 .1 .0)) (λ s. now (s .1 .1 .1 .1 .0)) read.Post
 card-read = reading-into _ _ _
+
+-- the three lists follow the card and the minute
+pub card-tabled : Once table.Post × Lent table.Post (λ s. now (s .1 .1 .0)) × Lent table.Post (λ s. now (s .1 .1 .1 .0)) × Lent table.Post (λ s. now (s .1 .1 .1 .1 .0))
+card-tabled = tabling _ _ _ _
 
 -- the buffer is the seventh
 pub card-written : Once write.Post × Lent write.Post (λ s. now (s .1 .1 .1 .1 .1 .1 .0))
@@ -331,3 +351,6 @@ boundary-read = reading-into _ _ _
 
 pub boundary-written : Once c-write.Post × Lent c-write.Post (λ s. now (s .1 .1 .1 .1 .1 .1 .0))
 boundary-written = let w = writing _ _ _ in (with-more _ _ (w .0), with-more _ _ (w .1))
+
+pub boundary-tabled : Once c-table.Post × Lent c-table.Post (λ s. now (s .1 .1 .0)) × Lent c-table.Post (λ s. now (s .1 .1 .1 .0)) × Lent c-table.Post (λ s. now (s .1 .1 .1 .1 .0))
+boundary-tabled = tabling _ _ _ _
