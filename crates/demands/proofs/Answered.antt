@@ -24,6 +24,7 @@ use Rattle.lists.specs.declared.CardReading.{CardReading}
 use Rattle.lists.specs.Lists as Lists-answers
 use Rattle.fit.specs.Promise.{Fits, slopes-after, curvatures-after}
 use Rattle.fit.proofs.Card.{places-lent, places-written}
+use Rattle.fit.proofs.Numbered.{fit-numbered}
 use Rattle.card_bytes.specs.Bytes.{quintic-head, bytes-of}
 use Rattle.card_bytes.specs.Held.{card-of}
 use Rattle.card_bytes.proofs.Sizes.{length-card}
@@ -37,7 +38,7 @@ use Rattle.writer.specs.Promise.{written, Writes}
 use Rattle.writer.proofs.Ready.{ready-of}
 use Rattle.demands.specs.Calls.{Fitting, the-fit}
 use Rattle.demands.specs.Demands.{Is-given, Says, Spares, No-card, Fit-says, Fit-spares}
-use Rattle.demands.proofs.Numbered.{says, accepts, mean-numbered, fit-numbered, write-numbered, card-numbered, into-numbered, reading-numbered}
+use Rattle.demands.proofs.Numbered.{says, accepts, mean-numbered, write-numbered, card-numbered, into-numbered, reading-numbered}
 
 -- ---- lent lists
 

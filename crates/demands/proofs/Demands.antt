@@ -13,7 +13,8 @@ use Rattle.card.specs.Answers.{own, read-off}
 use Rattle.exact_fit.proofs.Solution.{one-exact}
 use Rattle.demands.specs.Calls.{A-fit, A-fit-between, without-ends, between-ends, buffer, A-check, checked-bytes, read-bytes, places, reading-bytes, minute, first-minute, log}
 use Rattle.demands.specs.Demands.{Fit-says, Room-for, Off, Demand-1, Demand-2, Demand-3, Demands}
-use Rattle.demands.proofs.Numbered.{accepts, codes-numbered}
+use Rattle.fit.proofs.Numbered.{codes-numbered}
+use Rattle.demands.proofs.Numbered.{accepts}
 use Rattle.demands.proofs.Answered.{mean-answers, fit-says, fit-spares, check-answers, read-answers, read-spares, write-answers, write-spares, reading-answers}
 use Rattle.demands.proofs.Given.{eliminates, stated}
 use Rattle.demands.proofs.RoundTrip.{written-accepted, written-held, accepts-its-card, takes, reads-its-card, made-again}
