@@ -15,7 +15,7 @@ use Rattle.demands.specs.Calls.{A-fit, A-fit-between, without-ends, betw
 use Rattle.demands.specs.Demands.{Fit-says, Room-for, Off, Demand-1, Demand-2, Demand-3, Demands}
 use Rattle.fit.proofs.Numbered.{codes-numbered}
 use Rattle.demands.proofs.Numbered.{accepts}
-use Rattle.demands.proofs.Answered.{mean-answers, fit-says, fit-spares, check-answers, read-answers, read-spares, write-answers, write-spares, reading-answers}
+use Rattle.demands.proofs.Answered.{mean-answers, fit-says, fit-spares, check-answers, read-answers, read-spares, write-answers, write-spares, reading-answers, refit-answers, refit-spares}
 use Rattle.demands.proofs.Given.{eliminates, stated}
 use Rattle.demands.proofs.RoundTrip.{written-accepted, written-held, accepts-its-card, takes, reads-its-card, made-again}
 use Rattle.demands.proofs.Off.{stands-on-a-gap, of-card, close, at-knots, written-never, checked-never, read-never, read-off-never}
@@ -47,6 +47,9 @@ one =
       read-spares = λ c. read-spares (c .promised);
       reading = λ c. reading-answers (reading-bytes c) (minute c) (c .promised) .0;
       reading-zeros = λ c. reading-answers (reading-bytes c) (minute c) (c .promised) .1;
+      refit = λ c. refit-answers (c .promised) .0;
+      refit-zeros = λ c. refit-answers (c .promised) .1;
+      refit-spares = λ c. refit-spares (c .promised);
     }
 
 -- ---- 2

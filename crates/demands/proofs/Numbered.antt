@@ -17,6 +17,8 @@ use Rattle.card_bytes.specs.Held.{card-of}
 use Rattle.card_bytes.specs.Records.{due, head-due, knot-due, end-due, records-due, card-verdict}
 use Rattle.card.specs.Answers.{own}
 use Rattle.card.specs.Promise.{Lists, into}
+use Rattle.refit.specs.Fresh.{refit}
+use Rattle.refit.proofs.Renewal.{fresh-numbered}
 use Rattle.demands.specs.Demands.{Is-given, Says}
 
 -- ---- steps
@@ -51,9 +53,17 @@ card-numbered s =
     (never-then (never-then (never-each 0 _ 0 (knots c) (λ i l. numbered-refuse 14 _ _ (lit< tt))) (never-then (numbered-refuse 14 _ _ (lit< tt)) (numbered-refuse 14 _ _ (lit< tt))))
     (sound-numbered quintic c))))
 
+lists-numbered : (xs ys ms Ms : ℕ) (s : List ℕ) → Never 0 (lists-order xs ys ms Ms (own s) (knots (card-of s)))
+unfolding lists-order
+lists-numbered xs ys ms Ms s = never-then (lengths-numbered _ _ _ _) (never-then (card-numbered s) (room-numbered _ _))
+
 pub into-numbered : (l : Lists) (s : List ℕ) → Never 0 (into l s)
-unfolding into lists-order
-into-numbered l s = never-then (lengths-numbered _ _ _ _) (never-then (card-numbered s) (room-numbered _ _))
+unfolding into
+into-numbered l s = lists-numbered _ _ _ _ s
+
+pub refit-numbered : (ms Ms : ℕ) (s : List ℕ) → Never 0 (refit ms Ms s)
+unfolding refit
+refit-numbered ms Ms s = never-then (lists-numbered _ _ _ _ s) (fresh-numbered (card-of s))
 
 pub reading-numbered : (s : List ℕ) (minute : ℕ) → Never 0 (reading-order (own s) (card-of s) minute)
 unfolding reading-order outside

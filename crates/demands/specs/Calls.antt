@@ -1,4 +1,4 @@
--- Calls of the seven functions of the boundary (crates/kaihveto/src/lib.rt): what a function is called with, what it answers and what it leaves, by its promise as the prover reads it from the
+-- Calls of the eight functions of the boundary (crates/kaihveto/src/lib.rt): what a function is called with, what it answers and what it leaves, by its promise as the prover reads it from the
 -- source. What holds of every such call holds of the function. Assumes nothing.
 use Prim.Native.Nat.{ℕ}
 use mathlib.Core.List.{List}
@@ -24,6 +24,7 @@ use Rattle.kaihveto.proofs.kaihveto_write.Reads as write
 use Rattle.kaihveto.proofs.kaihveto_check.Reads as check
 use Rattle.kaihveto.proofs.kaihveto_read.Reads as read
 use Rattle.kaihveto.proofs.kaihveto_reading.Reads as reading
+use Rattle.kaihveto.proofs.kaihveto_refit.Reads as refit
 
 -- a call that meets a promise: of lifetimes, arguments, the answer, and the parameters at exit
 pub record Call {K A X S : Type 0} (Post : K → A → X → S → Type 0) : Type 0 where
@@ -156,3 +157,24 @@ minute c = c .arguments .1 .0
 -- its three numbers
 abbrev pub three : A-reading → Reading
 three c = record { value = c .answer .value; slope = c .answer .slope; curvature = c .answer .curvature }
+
+-- ---- kaihveto_refit(card, slopes, curvatures)
+
+abbrev pub A-refit : Type 0
+A-refit = Call refit.Post
+
+abbrev pub refit-bytes : A-refit → List ℕ
+refit-bytes c = now (c .arguments .0)
+
+-- the lists lent for slopes and curvatures, at entry and at exit
+abbrev pub fresh-slopes : A-refit → List ℤ
+fresh-slopes c = now (c .arguments .1 .0)
+
+abbrev pub fresh-curvatures : A-refit → List ℤ
+fresh-curvatures c = now (c .arguments .1 .1 .0)
+
+abbrev pub fresh-slopes′ : A-refit → List ℤ
+fresh-slopes′ c = now (c .exit .1 .0)
+
+abbrev pub fresh-curvatures′ : A-refit → List ℤ
+fresh-curvatures′ c = now (c .exit .1 .1 .0)

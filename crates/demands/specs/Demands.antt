@@ -28,7 +28,8 @@ use Rattle.card_bytes.specs.Held.{card-of}
 use Rattle.card.specs.declared.Checked.{Checked}
 use Rattle.card.specs.Answers.{own}
 use Rattle.card.specs.Promise.{Lists, into}
-use Rattle.demands.specs.Calls.{A-mean, first-minute, log, A-fit, A-fit-between, Fitting, without-ends, between-ends, the-fit, A-write, written-card, buffer, buffer′, A-check, checked-bytes, A-read, read-bytes, places, places′, A-reading, reading-bytes, minute, three}
+use Rattle.refit.specs.Fresh as Fresh
+use Rattle.demands.specs.Calls.{A-mean, first-minute, log, A-fit, A-fit-between, Fitting, without-ends, between-ends, the-fit, A-write, written-card, buffer, buffer′, A-check, checked-bytes, A-read, read-bytes, places, places′, A-reading, reading-bytes, minute, three, A-refit, refit-bytes, fresh-slopes, fresh-curvatures, fresh-slopes′, fresh-curvatures′}
 
 -- ---- 1. "Every input gets an answer: bad knots, logs, cards and minutes are refused by number and place, the numbers beside a refusal are zero, and lent memory stays untouched."
 
@@ -74,12 +75,15 @@ pub record Demand-1 : Type 0 where
   pub read : (c : A-read) → Says (into (places c) (read-bytes c)) (c .answer .number) (c .answer .place)
   -- the card's, then 11
   pub reading : (c : A-reading) → Says (reading-order (own (reading-bytes c)) (card-of (reading-bytes c)) (minute c)) (c .answer .number) (c .answer .place)
+  -- 3, the card's, 26; then the fit's own
+  pub refit : (c : A-refit) → Says (Fresh.refit (length (fresh-slopes c)) (length (fresh-curvatures c)) (refit-bytes c)) (c .answer .number) (c .answer .place)
   -- "the numbers beside a refusal are zero"
   pub mean-zeros : (c : A-mean) → c .answer .number ≢ 0 → (c .answer .minute ≡ 0) × (c .answer .ordinate ≡ pos 0) × (c .answer .good ≡ 0)
   pub write-zeros : (c : A-write) → c .answer .number ≢ 0 → c .answer .bytes ≡ 0
   pub check-zeros : (c : A-check) → No-card (c .answer)
   pub read-zeros : (c : A-read) → No-card (c .answer)
   pub reading-zeros : (c : A-reading) → c .answer .number ≢ 0 → (c .answer .value ≡ pos 0) × (c .answer .slope ≡ pos 0) × (c .answer .curvature ≡ pos 0)
+  pub refit-zeros : (c : A-refit) → c .answer .number ≢ 0 → (c .answer .knots ≡ 0) × (c .answer .changed ≡ 0)
   -- "and lent memory stays untouched"; on acceptance only the n places or the card's bytes are written
   pub fit-spares : (c : A-fit) → Fit-spares (without-ends c)
   pub fit-between-spares : (c : A-fit-between) → Fit-spares (between-ends c)
@@ -89,6 +93,9 @@ pub record Demand-1 : Type 0 where
       × Spares (c .answer .number) (c .answer .knots) (places c .ordinates) (places′ c .ordinates)
       × Spares (c .answer .number) (c .answer .knots) (places c .slopes) (places′ c .slopes)
       × Spares (c .answer .number) (c .answer .knots) (places c .curvatures) (places′ c .curvatures)
+  pub refit-spares : (c : A-refit) →
+      Spares (c .answer .number) (c .answer .knots) (fresh-slopes c) (fresh-slopes′ c)
+      × Spares (c .answer .number) (c .answer .knots) (fresh-curvatures c) (fresh-curvatures′ c)
 
 -- ---- 2. "The fit is exactly the elimination that the paper prescribes, each operation rounded once; logs give the stated mean; writing a sound card and reading it returns it, and
 -- accepted bytes are those that the writer makes."
