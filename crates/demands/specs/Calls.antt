@@ -1,4 +1,4 @@
--- Calls of the eight functions of the boundary (crates/kaihveto/src/lib.rt): what a function is called with, what it answers and what it leaves, by its promise as the prover reads it from the
+-- Calls of the functions of the boundary (crates/kaihveto/src/lib.rt): what a function is called with, what it answers and what it leaves, by its promise as the prover reads it from the
 -- source. What holds of every such call holds of the function. Assumes nothing.
 use Prim.Native.Nat.{ℕ}
 use mathlib.Core.List.{List}
