@@ -28,17 +28,17 @@
    compiled code moves bytes through them. Interrupts that come in on the stack of the code that they interrupt have to leave
    the 128 bytes below its stack pointer alone, as the convention says: these functions use them.
 
-   Floating point. kaihveto_fit and kaihveto_fit_ends compute in SSE binary64. Their answers hold in the mode in which a process
-   starts: rounding to nearest, no flush-to-zero, no denormals-are-zero, exceptions masked. A caller that has changed MXCSR
-   restores it for the call; a program that is linked with -ffast-math may start in another mode. The two may set the flags of
-   MXCSR. The other five functions have no floating-point operation and answer alike in every mode.
+   Floating point. kaihveto_fit, kaihveto_fit_ends and kaihveto_refit compute in SSE binary64. Their answers hold in the mode in
+   which a process starts: rounding to nearest, no flush-to-zero, no denormals-are-zero, exceptions masked. A caller that has
+   changed MXCSR restores it for the call; a program that is linked with -ffast-math may start in another mode. The three may
+   set the flags of MXCSR. The other functions have no floating-point operation and answer alike in every mode.
 
    Stack. Bytes that a call needs at 64 knots, measured and rounded up (docs/FIGURES.md, "Stack"); no proof bounds them. The
    first call may need more, where the loader binds memcpy and memset in it.
 
      kaihveto_mean      128        kaihveto_check    3,072        kaihveto_fit       8,192
      kaihveto_write     512        kaihveto_read     4,096        kaihveto_fit_ends  8,192
-                                   kaihveto_reading  4,096
+                                   kaihveto_reading  4,096        kaihveto_refit    10,240
 
    Time. A reading tests the whole card every time and only then looks up the minute: some 1 to 2 microseconds at 64 knots
    (docs/FIGURES.md, "Speed"). A controller that reads once a minute needs to keep nothing but the card's bytes. */
@@ -58,7 +58,7 @@ extern "C" {
    input gets another answer. MINOR rises where something is added and all else stays. The archive itself does not carry it:
    take both from one state of the sources. */
 #define KAIHVETO_VERSION_MAJOR 1
-#define KAIHVETO_VERSION_MINOR 0
+#define KAIHVETO_VERSION_MINOR 1
 
 /* The end codes. */
 #define KAIHVETO_FREE 0
@@ -190,6 +190,24 @@ typedef struct {
 } kaihveto_reading_answer;
 
 kaihveto_reading_answer kaihveto_reading(const uint8_t *card, size_t card_length, uint16_t minute);
+
+/* Fits a card's own knots anew, into two lists of one length: on acceptance the first n places of each, n being the card's
+   number of knots, and no other. The ends have the card's codes, and a number that a code gives is the card's own there. The
+   answer has n, and how many of the card's 2n slopes and curvatures are not the fit's. A card that was fitted with free ends
+   and not changed since has none. A given number is taken as it stands on the card: where it was changed, only the others
+   can show it; and where the fit was given one between two card units, some others may differ by a few units though nothing
+   was changed.
+   Refusals, in this order: 3, those of kaihveto_check, 26, and then the fit's own, 8, 9, 10. */
+typedef struct {
+    uint32_t number;
+    uint32_t place;
+    uint32_t knots;
+    uint32_t changed;
+} kaihveto_refit_answer;
+
+kaihveto_refit_answer kaihveto_refit(const uint8_t *card, size_t card_length,
+                                     int32_t *slopes, size_t slopes_length,
+                                     int32_t *curvatures, size_t curvatures_length);
 
 #ifdef __cplusplus
 }

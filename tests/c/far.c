@@ -116,6 +116,14 @@ int main(void) {
             free(a.first);
             break;
         }
+        case 'a': {
+            e = list(1), c = list(4), d = list(4);
+            kaihveto_refit_answer r = kaihveto_refit(e.first, e.length, c.first, c.length, d.first, d.length);
+            give(&r, sizeof r);
+            give_back(c), give_back(d);
+            free(c.first), free(d.first), free(e.first);
+            break;
+        }
         default:
             return 1;
         }

@@ -39,6 +39,10 @@ static uint32_t reading(void) {
     return kaihveto_reading(card, sizeof card, 333).number;
 }
 
+static uint32_t refit(void) {
+    return kaihveto_refit(card, sizeof card, slopes, KNOTS, curvatures, KNOTS).number;
+}
+
 static void paint(void) {
     volatile uint8_t below[DEPTH];
     for (size_t i = 0; i < DEPTH; i++)
@@ -72,5 +76,6 @@ int main(void) {
     good &= line("check", check);
     good &= line("read", read_card);
     good &= line("reading", reading);
+    good &= line("refit", refit);
     return good ? 0 : 1;
 }

@@ -50,28 +50,27 @@ checked-same {r} {v} w {c} {d} p q f = p ∙ ap (λ u. checked u d) q ∙ go w f
     go (refused n p) f = refl
     go (given u) f = ap (checked (given u)) (f refl)
 
--- ---- four lent lists
+-- ---- the order of lent lists, by their lengths
 
-module _ (l : Lists) (s : List ℕ) where
+module _ (xs ys ms Ms : ℕ) (s : List ℕ) where
   -- "3, the card's, 26", of what was opened
-  pub into-is : {o : Opened} → Opens quintic quintic-head o s
-      → lists-order (length (l .minutes)) (length (l .ordinates)) (length (l .slopes)) (length (l .curvatures)) (verdict-of (o .verdict)) (o .card .knots) ≡ into l s
-  unfolding into lists-order
-  into-is o = then-same refl (λ e. then-same (o .judged) (λ a. ap (λ n. room n (length (l .minutes))) (knots-held (held o a))))
+  pub opened-order : {o : Opened} → Opens quintic quintic-head o s → lists-order xs ys ms Ms (verdict-of (o .verdict)) (o .card .knots) ≡ lists-order xs ys ms Ms (own s) (knots (card-of s))
+  unfolding lists-order
+  opened-order o = then-same refl (λ e. then-same (o .judged) (λ a. ap (λ n. room n xs) (knots-held (held o a))))
 
   -- what an acceptance leaves
   pub record Taken : Type 0 where
     pub own : own s ≡ accepted
-    pub ordinates : length (l .ordinates) ≡ length (l .minutes)
-    pub slopes : length (l .slopes) ≡ length (l .minutes)
-    pub curvatures : length (l .curvatures) ≡ length (l .minutes)
-    pub room : knots (card-of s) ≤ length (l .minutes)
+    pub ordinates : ys ≡ xs
+    pub slopes : ms ≡ xs
+    pub curvatures : Ms ≡ xs
+    pub room : knots (card-of s) ≤ xs
 
-  pub taken : into l s ≡ accepted → Taken
-  unfolding into lists-order room
-  taken e =
+  pub order-takes : lists-order xs ys ms Ms (own s) (knots (card-of s)) ≡ accepted → Taken
+  unfolding lists-order room
+  order-takes e =
       let n = next-accepts (lengths _ _ _ _) _ e in
-      let same = same-lengths (length (l .minutes)) (length (l .ordinates)) (length (l .slopes)) (length (l .curvatures)) (first-accepts _ _ e) in
+      let same = same-lengths xs ys ms Ms (first-accepts _ _ e) in
       record {
         own = first-accepts _ _ n;
         ordinates = same .0;
@@ -79,6 +78,18 @@ module _ (l : Lists) (s : List ℕ) where
         curvatures = same .2;
         room = ltb-false _ _ (refuse-accepts 26 0 _ (next-accepts _ _ n));
       }
+
+-- ---- four lent lists
+
+module _ (l : Lists) (s : List ℕ) where
+  pub into-is : {o : Opened} → Opens quintic quintic-head o s
+      → lists-order (length (l .minutes)) (length (l .ordinates)) (length (l .slopes)) (length (l .curvatures)) (verdict-of (o .verdict)) (o .card .knots) ≡ into l s
+  unfolding into
+  into-is o = opened-order _ _ _ _ s o
+
+  pub taken : into l s ≡ accepted → Taken (length (l .minutes)) (length (l .ordinates)) (length (l .slopes)) (length (l .curvatures)) s
+  unfolding into
+  taken e = order-takes _ _ _ _ s e
 
   -- ---- what the lists hold afterwards
 

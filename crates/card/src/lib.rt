@@ -61,8 +61,8 @@ pub fn check(card: &[u8]) -> Checked
 
 // ---- the card into lent lists
 
-// 3, the card's, 26.
-fn into(
+// 3, the card's, 26: of a card that was opened, and the lengths of four lists.
+pub fn into(
     opened: Opened,
     minutes: usize,
     ordinates: usize,

@@ -13,6 +13,7 @@ use Rattle.answer.specs.Lent.{lent-after}
 use Rattle.answer.proofs.Never.{Never}
 use Rattle.front.specs.Front.{listed}
 use Rattle.front.proofs.Listed.{length-listed}
+use Rattle.answer.proofs.Steps.{first-accepts, next-accepts}
 use Rattle.curve.specs.Kind.{quintic}
 use Rattle.curve.specs.Card.{Card, knots}
 use Rattle.curve.specs.Log as Log
@@ -26,6 +27,7 @@ use Rattle.lists.specs.declared.CardReading.{CardReading}
 use Rattle.lists.specs.Lists as Lists-answers
 use Rattle.fit.specs.Promise.{Fits, slopes-after, curvatures-after}
 use Rattle.fit.proofs.Card.{places-lent, places-written}
+use Rattle.fit.proofs.Numbered.{fit-numbered}
 use Rattle.card_bytes.specs.Bytes.{quintic-head, bytes-of}
 use Rattle.card_bytes.specs.Held.{card-of}
 use Rattle.card_bytes.proofs.Sizes.{length-card}
@@ -33,20 +35,32 @@ use Rattle.card_bytes.proofs.RoundTrip.{accepted-card}
 use Rattle.card.specs.declared.Checked.{Checked}
 use Rattle.card.specs.Answers.{own, checked, read-off}
 use Rattle.card.specs.Promise.{Lists, into, Reads}
-use Rattle.card.proofs.Lists.{taken}
 use Rattle.table.specs.declared.Tabled.{Tabled}
 use Rattle.table.specs.Table.{count, tabled}
 use Rattle.table.specs.Promise.{Columns, table-verdict, rows, Tables}
 use Rattle.table.proofs.Tables.{took}
 use Rattle.table.proofs.Readings.{count-is}
+use Rattle.card.proofs.Lists.{Taken, order-takes, taken}
 use Rattle.writer.specs.declared.Written.{Written}
 use Rattle.writer.specs.Promise.{written, Writes}
 use Rattle.writer.proofs.Ready.{ready-of}
+use Rattle.refit.specs.declared.Refitted.{Refitted}
+use Rattle.refit.specs.Fresh.{fresh, refit}
+use Rattle.refit.specs.Promise.{refitted, after, Refits}
+use Rattle.refit.proofs.Renewal.{fresh-places}
 use Rattle.demands.specs.Calls.{Fitting, the-fit}
 use Rattle.demands.specs.Demands.{Is-given, Says, Spares, No-card, Fit-says, Fit-spares}
-use Rattle.demands.proofs.Numbered.{says, accepts, mean-numbered, fit-numbered, write-numbered, card-numbered, into-numbered, reading-numbered, table-numbered}
+use Rattle.demands.proofs.Numbered.{says, accepts, mean-numbered, write-numbered, card-numbered, into-numbered, reading-numbered, table-numbered, refit-numbered}
 
 -- ---- lent lists
+
+-- vs over the front of a list keeps its length and what stands behind
+over-front : {A : Type 0} (vs entry : List A) {exit : List A} {k : ℕ} → exit ≡ vs ++ drop (length vs) entry → length vs ≡ k → k ≤ length entry
+    → (length exit ≡ length entry) × (drop k exit ≡ drop k entry)
+over-front vs entry {k = k} is e room = (
+  ap length is ∙ simp (length-append, length-drop) (omega arith),
+  ap (drop k) is ∙ drop-at vs _ k e ∙ ap (λ i. drop i entry) e,
+)
 
 untouched : {A : Type 0} (v : Verdict) (vs list : List A) → v ≢ accepted → lent-after v vs list ≡ list
 unfolding lent-after
@@ -61,12 +75,7 @@ spares {v = v} {k = k} vs entry {exit} s e room =
     record { refused = λ h. e ∙ untouched v vs entry (λ a. h (s .accepted (record { what = tt; is = a }))); given = λ z. front (accepts s z) }
   where
     front : v ≡ accepted → (length exit ≡ length entry) × (drop k exit ≡ drop k entry)
-    front a =
-        let r = room a in
-        let is : exit ≡ vs ++ drop (length vs) entry = e ∙ ap (λ u. lent-after u vs entry) a in (
-          ap length is ∙ simp (length-append, length-drop) (omega arith),
-          ap (drop k) is ∙ drop-at vs _ k (r .0) ∙ ap (λ i. drop i entry) (r .0),
-        )
+    front a = over-front vs entry (e ∙ ap (λ u. lent-after u vs entry) a) (room a .0) (room a .1)
 
 -- ---- the mean of a log
 
@@ -228,3 +237,56 @@ module _ {s : List ℕ} {from : ℕ} {entry exit : Columns} {r : Tabled} (tables
     where
       long : (f : ℕ → ℤ) → table-verdict entry s from ≡ accepted → length (listed f (rows entry s from)) ≡ r .count
       long f a = length-listed f (rows entry s from) ∙ sym (count-is tables a)
+
+-- ---- a card fitted anew
+
+abbrev pub No-refit : Refitted → Type 0
+No-refit r = r .number ≢ 0 → (r .knots ≡ 0) × (r .changed ≡ 0)
+
+refit-fields : (c : Card) (v : Answer Card) → (let r = refitted c v in (r .number ≡ number v) × (r .place ≡ place v) × No-refit r)
+unfolding refitted number place
+refit-fields c (refused n p) = (refl, refl, λ h. (refl, refl))
+refit-fields c (given d) = (refl, refl, λ h. absurd (h refl))
+
+module _ {s : List ℕ} {ms Ms ms′ Ms′ : List ℤ} {r : Refitted} (refits : Refits s ms Ms ms′ Ms′ r) where
+  abbrev order : Answer Card
+  order = refit (length ms) (length Ms) s
+
+  pub refit-answers : Says order (r .number) (r .place) × No-refit r
+  refit-answers =
+      let f = refit-fields (card-of s) order in
+      subst (λ r. Says order (r .number) (r .place) × No-refit r) (sym (refits .answer)) (says order (refit-numbered (length ms) (length Ms) s) (f .0) (f .1), f .2)
+
+  -- what an acceptance leaves: the order of lent lists, and the fresh fit
+  module _ {d : Card} (e : order ≡ given d) where
+    lent : Taken (length ms) (length ms) (length ms) (length Ms) s
+    unfolding refit
+    lent = order-takes _ _ _ _ s (first-accepts _ _ e)
+
+    fitted : fresh (card-of s) ≡ given d
+    unfolding refit
+    fitted = next-accepts _ _ e
+
+    counted : knots (card-of s) ≡ r .knots
+    unfolding refitted
+    counted = sym (ap (λ r. r .knots) (refits .answer ∙ ap (refitted (card-of s)) e))
+
+  spares-front : (numbers : Card → List ℤ) {entry exit : List ℤ} → exit ≡ after order numbers entry
+      → ((d : Card) → order ≡ given d → (length (numbers d) ≡ knots (card-of s)) × (knots (card-of s) ≤ length entry)) → Spares (r .number) (r .knots) entry exit
+  unfolding after
+  spares-front numbers {entry} {exit} e room = record { refused = λ h. e ∙ go order refl h; given = λ z. front (refit-answers .0 .accepts z) }
+    where
+      go : (v : Answer Card) → order ≡ v → r .number ≢ 0 → after v numbers entry ≡ entry
+      go (refused n p) is h = refl
+      go (given d) is h = absurd (h (refit-answers .0 .accepted (record { what = d; is = is })))
+
+      front : Is-given order → (length exit ≡ length entry) × (drop (r .knots) exit ≡ drop (r .knots) entry)
+      front g =
+          let l = room (g .what) (g .is) in
+          over-front (numbers (g .what)) entry (e ∙ ap (λ v. after v numbers entry) (g .is)) (l .0 ∙ counted (g .is)) (omega (arith, l .1, counted (g .is)))
+
+  pub refit-spares : Spares (r .number) (r .knots) ms ms′ × Spares (r .number) (r .knots) Ms Ms′
+  refit-spares = (
+    spares-front (λ d. d .slopes) (refits .slopes) (λ d e. (fresh-places (card-of s) (fitted e) .0, lent e .room)),
+    spares-front (λ d. d .curvatures) (refits .curvatures) (λ d e. (fresh-places (card-of s) (fitted e) .1, omega (arith, lent e .room, lent e .curvatures))),
+  )

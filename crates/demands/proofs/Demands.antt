@@ -16,8 +16,9 @@ use Rattle.table.specs.Promise.{table-verdict, Tables}
 use Rattle.exact_fit.proofs.Solution.{one-exact}
 use Rattle.demands.specs.Calls.{A-fit, A-fit-between, without-ends, between-ends, buffer, A-check, checked-bytes, read-bytes, places, reading-bytes, minute, A-table, table-bytes, from, lists-for, lists-for′, first-minute, log}
 use Rattle.demands.specs.Demands.{Fit-says, Room-for, Off, Demand-1, Demand-2, Demand-3, Demands}
-use Rattle.demands.proofs.Numbered.{accepts, codes-numbered}
-use Rattle.demands.proofs.Answered.{mean-answers, fit-says, fit-spares, check-answers, read-answers, read-spares, write-answers, write-spares, reading-answers, table-answers, table-spares}
+use Rattle.fit.proofs.Numbered.{codes-numbered}
+use Rattle.demands.proofs.Numbered.{accepts}
+use Rattle.demands.proofs.Answered.{mean-answers, fit-says, fit-spares, check-answers, read-answers, read-spares, write-answers, write-spares, reading-answers, table-answers, table-spares, refit-answers, refit-spares}
 use Rattle.demands.proofs.Given.{eliminates, stated}
 use Rattle.demands.proofs.RoundTrip.{written-accepted, written-held, accepts-its-card, takes, reads-its-card, made-again}
 use Rattle.demands.proofs.Off.{stands-on-a-gap, of-card, close, at-knots, on-its-card, in-table, table-counted, written-never, checked-never, read-never, read-off-never, table-never}
@@ -52,6 +53,9 @@ one =
       table = λ c. table-answers (c .promised) .0;
       table-zeros = λ c. table-answers (c .promised) .1;
       table-spares = λ c. table-spares (c .promised);
+      refit = λ c. refit-answers (c .promised) .0;
+      refit-zeros = λ c. refit-answers (c .promised) .1;
+      refit-spares = λ c. refit-spares (c .promised);
     }
 
 -- ---- 2

@@ -1,59 +1,33 @@
 -- No order of document 01 refuses with the number 0, so that 0 is answered exactly where it accepts.
 -- Assumes nothing.
-use Prim.Native.Nat.{ℕ, zero, suc}
+use Prim.Native.Nat.{ℕ}
 use mathlib.Core.Path.{_≡_, refl, sym, ap, _∙_}
 use mathlib.Core.List.{List}
-use native.Mathlib.Omega.{arith}
 use lib.Dec.{lit<}
-use lib.IntN.{ℤ}
 use lib.ListN.{length}
 use Rattle.answer.specs.Answer.{Answer, refused, given, Verdict, accepted, number, place}
-use Rattle.answer.specs.Judge.{numbered}
 use Rattle.answer.proofs.Never.{Never, given-never, never-then, never-each, numbered-refuse}
 use Rattle.curve.specs.Kind.{Kind, quintic}
 use Rattle.curve.specs.Card.{Card, knots}
 use Rattle.curve.specs.Log.{long, readable, some-good, mean}
-use Rattle.curve.specs.Steps.{lengths, counted, codes, stands, in-range, smooth, outside, room}
-use Rattle.curve.specs.Orders.{numbers-sound, sound, verdict, fit-order, card-order, lists-order, write-order, reading-order}
-use Rattle.rows.specs.declared.End.{End}
-use Rattle.ends.specs.Ends.{ends}
-use Rattle.fit.specs.Fit.{solved, eliminated, fit-of}
-use Rattle.fit.specs.Fit.{card-of as fitted}
+use Rattle.curve.specs.Steps.{outside, room}
+use Rattle.curve.specs.Orders.{sound, verdict, card-order, lists-order, write-order, reading-order}
+use Rattle.fit.proofs.Numbered.{lengths-numbered, counted-numbered, codes-numbered, stands-numbered, numbers-numbered}
 use Rattle.card_bytes.specs.Held.{card-of}
 use Rattle.card_bytes.specs.Records.{due, head-due, knot-due, end-due, records-due, card-verdict}
 use Rattle.card.specs.Answers.{own}
 use Rattle.card.specs.Promise.{Lists, into}
 use Rattle.table.specs.Table.{table-order}
 use Rattle.table.specs.Promise.{Columns, table-verdict}
+use Rattle.refit.specs.Fresh.{refit}
+use Rattle.refit.proofs.Renewal.{fresh-numbered}
 use Rattle.demands.specs.Demands.{Is-given, Says}
 
 -- ---- steps
 
-module _ (K : Kind) where
-  counted-numbered : (n : ℕ) → Never 0 (counted K n)
-  unfolding counted
-  counted-numbered n = never-then (numbered-refuse 1 0 _ (lit< tt)) (numbered-refuse 2 0 _ (lit< tt))
-
-  pub codes-numbered : (left right : ℕ) → Never 0 (codes K left right)
-  unfolding codes
-  codes-numbered left right = never-then (numbered-refuse 15 0 _ (lit< tt)) (numbered-refuse 15 1 _ (lit< tt))
-
-  stands-numbered : (xs : List ℕ) (ys : List ℤ) (i : ℕ) → Never 0 (stands K xs ys i)
-  unfolding stands
-  stands-numbered xs ys i = never-then (numbered-refuse 4 i _ (lit< tt)) (never-then (numbered-refuse 5 i _ (lit< tt)) (numbered-refuse 6 i _ (lit< tt)))
-
-  numbers-numbered : (c : Card) → Never 0 (numbers-sound K c)
-  unfolding numbers-sound in-range smooth
-  numbers-numbered c =
-      never-then (never-each 0 _ 0 (knots c) (λ i l. numbered-refuse 9 i _ (lit< tt))) (never-each 0 _ 0 (knots c) (λ i l. numbered-refuse 10 i _ (lit< tt)))
-
-  sound-numbered : (c : Card) → Never 0 (sound K c)
-  unfolding sound
-  sound-numbered c = never-then (never-each 0 _ 0 (knots c) (λ i l. stands-numbered (c .minutes) (c .ordinates) i)) (numbers-numbered c)
-
-lengths-numbered : (n ys ms Ms : ℕ) → Never 0 (lengths n ys ms Ms)
-unfolding lengths
-lengths-numbered n ys ms Ms = numbered-refuse 3 0 _ (lit< tt)
+sound-numbered : (K : Kind) (c : Card) → Never 0 (sound K c)
+unfolding sound
+sound-numbered K c = never-then (never-each 0 _ 0 (knots c) (λ i l. stands-numbered K (c .minutes) (c .ordinates) i)) (numbers-numbered K c)
 
 room-numbered : (needed lent : ℕ) → Never 0 (room needed lent)
 unfolding room
@@ -65,26 +39,6 @@ pub mean-numbered : (minute : ℕ) (log : List ℕ) → Never 0 (mean minute log
 unfolding mean long readable some-good
 mean-numbered minute log =
     never-then (numbered-refuse 16 0 _ (lit< tt)) (never-then (never-each 0 _ 0 (length log) (λ i l. numbered-refuse 12 i _ (lit< tt))) (never-then (numbered-refuse 13 0 _ (lit< tt)) given-never))
-
--- 8 comes with its number, or with none
-eight-numbered : (n p : ℕ) → Never 0 (numbered n p)
-eight-numbered zero p = given-never
-eight-numbered (suc n) p = record { never = λ q e. let z : suc n ≡ 0 = cc in omega arith }
-
-module _ (xs : List ℕ) (ys : List ℤ) (left right : End) (ms Ms : ℕ) {named : Verdict} where
-  pub fit-numbered : Never 0 named → Never 0 (fit-of xs ys left right ms Ms named)
-  unfolding fit-of fit-order ends eliminated
-  fit-numbered n =
-      let r = solved xs ys left right in
-      let c = fitted xs ys left right in
-      never-then
-      (never-then (lengths-numbered _ _ _ _)
-      (never-then (counted-numbered quintic (knots c))
-      (never-then n
-      (never-then (never-each 0 _ 0 (knots c) (λ i l. stands-numbered quintic (c .minutes) (c .ordinates) i))
-      (never-then (never-then (numbered-refuse 7 0 _ (lit< tt)) (numbered-refuse 7 _ _ (lit< tt)))
-      (never-then (eight-numbered (r .number) (r .place)) (numbers-numbered quintic c)))))))
-      (given-never {a = c})
 
 pub write-numbered : (c : Card) (lent : ℕ) → Never 0 (write-order quintic c lent)
 unfolding write-order verdict
@@ -101,9 +55,17 @@ card-numbered s =
     (never-then (never-then (never-each 0 _ 0 (knots c) (λ i l. numbered-refuse 14 _ _ (lit< tt))) (never-then (numbered-refuse 14 _ _ (lit< tt)) (numbered-refuse 14 _ _ (lit< tt))))
     (sound-numbered quintic c))))
 
+lists-numbered : (xs ys ms Ms : ℕ) (s : List ℕ) → Never 0 (lists-order xs ys ms Ms (own s) (knots (card-of s)))
+unfolding lists-order
+lists-numbered xs ys ms Ms s = never-then (lengths-numbered _ _ _ _) (never-then (card-numbered s) (room-numbered _ _))
+
 pub into-numbered : (l : Lists) (s : List ℕ) → Never 0 (into l s)
-unfolding into lists-order
-into-numbered l s = never-then (lengths-numbered _ _ _ _) (never-then (card-numbered s) (room-numbered _ _))
+unfolding into
+into-numbered l s = lists-numbered _ _ _ _ s
+
+pub refit-numbered : (ms Ms : ℕ) (s : List ℕ) → Never 0 (refit ms Ms s)
+unfolding refit
+refit-numbered ms Ms s = never-then (lists-numbered _ _ _ _ s) (fresh-numbered (card-of s))
 
 pub reading-numbered : (s : List ℕ) (minute : ℕ) → Never 0 (reading-order (own s) (card-of s) minute)
 unfolding reading-order outside

@@ -1,4 +1,4 @@
--- Calls of the eight functions of the boundary (crates/kaihveto/src/lib.rt): what a function is called with, what it answers and what it leaves, by its promise as the prover reads it from the
+-- Calls of the functions of the boundary (crates/kaihveto/src/lib.rt): what a function is called with, what it answers and what it leaves, by its promise as the prover reads it from the
 -- source. What holds of every such call holds of the function. Assumes nothing.
 use Prim.Native.Nat.{ℕ}
 use mathlib.Core.List.{List}
@@ -26,6 +26,7 @@ use Rattle.kaihveto.proofs.kaihveto_check.Reads as check
 use Rattle.kaihveto.proofs.kaihveto_read.Reads as read
 use Rattle.kaihveto.proofs.kaihveto_reading.Reads as reading
 use Rattle.kaihveto.proofs.kaihveto_table.Reads as table
+use Rattle.kaihveto.proofs.kaihveto_refit.Reads as refit
 
 -- a call that meets a promise: of lifetimes, arguments, the answer, and the parameters at exit
 pub record Call {K A X S : Type 0} (Post : K → A → X → S → Type 0) : Type 0 where
@@ -179,3 +180,24 @@ lists-for′ c = let s = c .exit in columns (s .1 .1 .0) (s .1 .1 .1 .0) (s .1 .
 -- the three numbers at a place of its lists at exit
 abbrev pub row : A-table → ℕ → Reading
 row c i = let l = lists-for′ c in record { value = getD (l .values) i (pos 0); slope = getD (l .slopes) i (pos 0); curvature = getD (l .curvatures) i (pos 0) }
+
+-- ---- kaihveto_refit(card, slopes, curvatures)
+
+abbrev pub A-refit : Type 0
+A-refit = Call refit.Post
+
+abbrev pub refit-bytes : A-refit → List ℕ
+refit-bytes c = now (c .arguments .0)
+
+-- the lists lent for slopes and curvatures, at entry and at exit
+abbrev pub fresh-slopes : A-refit → List ℤ
+fresh-slopes c = now (c .arguments .1 .0)
+
+abbrev pub fresh-curvatures : A-refit → List ℤ
+fresh-curvatures c = now (c .arguments .1 .1 .0)
+
+abbrev pub fresh-slopes′ : A-refit → List ℤ
+fresh-slopes′ c = now (c .exit .1 .0)
+
+abbrev pub fresh-curvatures′ : A-refit → List ℤ
+fresh-curvatures′ c = now (c .exit .1 .1 .0)

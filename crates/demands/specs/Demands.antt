@@ -29,7 +29,8 @@ use Rattle.card.specs.declared.Checked.{Checked}
 use Rattle.card.specs.Answers.{own}
 use Rattle.card.specs.Promise.{Lists, into}
 use Rattle.table.specs.Promise.{table-verdict}
-use Rattle.demands.specs.Calls.{A-mean, first-minute, log, A-fit, A-fit-between, Fitting, without-ends, between-ends, the-fit, A-write, written-card, buffer, buffer′, A-check, checked-bytes, A-read, read-bytes, places, places′, A-reading, reading-bytes, minute, three, A-table, table-bytes, from, lists-for, lists-for′, row}
+use Rattle.refit.specs.Fresh as Fresh
+use Rattle.demands.specs.Calls.{A-mean, first-minute, log, A-fit, A-fit-between, Fitting, without-ends, between-ends, the-fit, A-write, written-card, buffer, buffer′, A-check, checked-bytes, A-read, read-bytes, places, places′, A-reading, reading-bytes, minute, three, A-table, table-bytes, from, lists-for, lists-for′, row, A-refit, refit-bytes, fresh-slopes, fresh-curvatures, fresh-slopes′, fresh-curvatures′}
 
 -- ---- 1. "Every input gets an answer: bad knots, logs, cards and minutes are refused by number and place, the numbers beside a refusal are zero, and lent memory stays untouched."
 
@@ -77,6 +78,8 @@ pub record Demand-1 : Type 0 where
   pub reading : (c : A-reading) → Says (reading-order (own (reading-bytes c)) (card-of (reading-bytes c)) (minute c)) (c .answer .number) (c .answer .place)
   -- 3, the card's, 11
   pub table : (c : A-table) → Says (table-verdict (lists-for c) (table-bytes c) (from c)) (c .answer .number) (c .answer .place)
+  -- 3, the card's, 26; then the fit's own
+  pub refit : (c : A-refit) → Says (Fresh.refit (length (fresh-slopes c)) (length (fresh-curvatures c)) (refit-bytes c)) (c .answer .number) (c .answer .place)
   -- "the numbers beside a refusal are zero"
   pub mean-zeros : (c : A-mean) → c .answer .number ≢ 0 → (c .answer .minute ≡ 0) × (c .answer .ordinate ≡ pos 0) × (c .answer .good ≡ 0)
   pub write-zeros : (c : A-write) → c .answer .number ≢ 0 → c .answer .bytes ≡ 0
@@ -84,6 +87,7 @@ pub record Demand-1 : Type 0 where
   pub read-zeros : (c : A-read) → No-card (c .answer)
   pub reading-zeros : (c : A-reading) → c .answer .number ≢ 0 → (c .answer .value ≡ pos 0) × (c .answer .slope ≡ pos 0) × (c .answer .curvature ≡ pos 0)
   pub table-zeros : (c : A-table) → c .answer .number ≢ 0 → c .answer .count ≡ 0
+  pub refit-zeros : (c : A-refit) → c .answer .number ≢ 0 → (c .answer .knots ≡ 0) × (c .answer .changed ≡ 0)
   -- "and lent memory stays untouched"; on acceptance only the n places, the card's bytes or the places of the readings are written
   pub fit-spares : (c : A-fit) → Fit-spares (without-ends c)
   pub fit-between-spares : (c : A-fit-between) → Fit-spares (between-ends c)
@@ -97,6 +101,9 @@ pub record Demand-1 : Type 0 where
       Spares (c .answer .number) (c .answer .count) (lists-for c .values) (lists-for′ c .values)
       × Spares (c .answer .number) (c .answer .count) (lists-for c .slopes) (lists-for′ c .slopes)
       × Spares (c .answer .number) (c .answer .count) (lists-for c .curvatures) (lists-for′ c .curvatures)
+  pub refit-spares : (c : A-refit) →
+      Spares (c .answer .number) (c .answer .knots) (fresh-slopes c) (fresh-slopes′ c)
+      × Spares (c .answer .number) (c .answer .knots) (fresh-curvatures c) (fresh-curvatures′ c)
 
 -- ---- 2. "The fit is exactly the elimination that the paper prescribes, each operation rounded once; logs give the stated mean; writing a sound card and reading it returns it, and
 -- accepted bytes are those that the writer makes."

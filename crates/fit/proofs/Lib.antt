@@ -3,5 +3,6 @@ pub mod Order
 pub mod Held
 pub mod Worked
 pub mod Card
+pub mod Numbered
 pub mod Outcome
 pub mod Table3

@@ -14,6 +14,7 @@ ghost use Rattle.card.specs.Answers.{own, checked, read-off};
 ghost use Rattle.card.specs.Promise.{lists, Reads};
 ghost use Rattle.table.specs.Promise.{columns, Tables};
 ghost use Rattle.writer.specs.Promise.{Writes};
+ghost use Rattle.refit.specs.Promise.{Refits};
 ghost use Rattle.kaihveto.specs.Types.{Minutes};
 
 // The mean of a log that starts at a minute: 16, 12, 13.
@@ -143,4 +144,16 @@ pub extern "C" fn kaihveto_table(
         (columns (values .exit) (slopes .exit) (curvatures .exit)) r ⌝ }
 {
     table::table(card, from, values, slopes, curvatures)
+}
+
+// The slopes and curvatures of a card's own knots fitted anew, at the front of two lists, and how many of the card's are others: 3, the card's, 26; 8; 9; 10.
+#[no_mangle]
+pub extern "C" fn kaihveto_refit(
+    card: &[u8],
+    slopes: &mut [i32],
+    curvatures: &mut [i32],
+) -> refit::Refitted
+    ensures { λ r. ⌜ Refits (now (card .entry)) (now (slopes .entry)) (now (curvatures .entry)) (now (slopes .exit)) (now (curvatures .exit)) r ⌝ }
+{
+    refit::refit(card, slopes, curvatures)
 }

@@ -63,6 +63,7 @@ use Rattle.opened.proofs.Opened.by_head.Reads as opened-by-head
 use Rattle.card.specs.declared.Checked.{Checked}
 use Rattle.card.specs.Promise.{Lists, Reads}
 use Rattle.card.proofs.check.Reads as check
+use Rattle.card.proofs.into.Reads as into
 use Rattle.card.proofs.read.Reads as read
 use Rattle.card.proofs.reading.Reads as reading
 use Rattle.table.specs.declared.Tabled.{Tabled}
@@ -93,6 +94,9 @@ use Rattle.fit.proofs.Outcome.{one-fit}
 use Rattle.fit.proofs.fit_between.Reads as fit-between
 use Rattle.fit.proofs.fit_codes.Reads as fit-codes
 use Rattle.fit.proofs.fit.Reads as fit
+use Rattle.refit.specs.declared.Refitted.{Refitted}
+use Rattle.refit.specs.Promise.{Refits}
+use Rattle.refit.proofs.refit.Reads as refit
 use Rattle.decimal.specs.Put.{Put}
 use Rattle.decimal.proofs.Puts.{one-put}
 use Rattle.decimal.proofs.magnitude.Reads as magnitude
@@ -119,6 +123,7 @@ use Rattle.kaihveto.proofs.kaihveto_check.Reads as c-check
 use Rattle.kaihveto.proofs.kaihveto_read.Reads as c-read
 use Rattle.kaihveto.proofs.kaihveto_reading.Reads as c-reading
 use Rattle.kaihveto.proofs.kaihveto_table.Reads as c-table
+use Rattle.kaihveto.proofs.kaihveto_refit.Reads as c-refit
 use Rattle.outcome.specs.Once.{Leaves, Once, Lent}
 
 -- ---- the laws: a promise is an equation of what is left to the caller, or one of what an answer means, or several equations
@@ -193,6 +198,17 @@ module _ {K A S : Type 0} (fit : K → A → Answer Card) (ms Ms : K → A → L
   fitting : Once Fitting × Lent Fitting ms′ × Lent Fitting Ms′
   fitting = ((λ κs a x y s t p q. one-fit p q .0), (λ κs a x y s t p q. one-fit p q .1), λ κs a x y s t p q. one-fit p q .2)
 
+module _ {K A S : Type 0} (bytes : K → A → List ℕ) (ms Ms : K → A → List ℤ) (ms′ Ms′ : S → List ℤ) where
+  abbrev Refitting : K → A → Refitted → S → Type 0
+  Refitting κs a x s = Refits (bytes κs a) (ms κs a) (Ms κs a) (ms′ s) (Ms′ s) x
+
+  refitting : Once Refitting × Lent Refitting ms′ × Lent Refitting Ms′
+  refitting = (
+    (λ κs a x y s t p q. one-outcome (p .answer) (q .answer)),
+    (λ κs a x y s t p q. one-outcome (p .slopes) (q .slopes)),
+    λ κs a x y s t p q. one-outcome (p .curvatures) (q .curvatures),
+  )
+
 module _ {K A S : Type 0} (words text : K → A → List ℕ) (text′ : S → List ℕ) (at : K → A → ℕ) where
   abbrev Putting : K → A → ℕ → S → Type 0
   Putting κs a x s = Put (words κs a) (text κs a) (text′ s) (at κs a) x
@@ -259,8 +275,8 @@ decode-given = given _ _ _ _ _ _ _ _
 pub opened : Once opened-by-head.Post
 opened κs a x y s t = one-opened
 
-pub card : Once check.Post × Once reading.Post
-card = (equation _ _, equation _ _)
+pub card : Once check.Post × Once into.Post × Once reading.Post
+card = (equation _ _, judgement _, equation _ _)
 
 pub card-read : Once read.Post × Four (λ s. now (s .1 .0)) (λ s. now (s .1 .1 .0)) (λ s. now (s .1 .1 .1 .0)) (λ s. now (s .1 .1 .1 .1 .0)) read.Post
 card-read = reading-into _ _ _
@@ -296,6 +312,10 @@ fit-by-codes = fitting _ _ _ _ _
 
 pub fit-free : Once fit.Post × Lent fit.Post (λ s. now (s .1 .1 .0)) × Lent fit.Post (λ s. now (s .1 .1 .1 .0))
 fit-free = fitting _ _ _ _ _
+
+-- here the second and the third
+pub fit-anew : Once refit.Post × Lent refit.Post (λ s. now (s .1 .0)) × Lent refit.Post (λ s. now (s .1 .1 .0))
+fit-anew = refitting _ _ _ _ _
 
 -- ---- what the programs read and print
 
@@ -354,3 +374,6 @@ boundary-written = let w = writing _ _ _ in (with-more _ _ (w .0), with-more _ _
 
 pub boundary-tabled : Once c-table.Post × Lent c-table.Post (λ s. now (s .1 .1 .0)) × Lent c-table.Post (λ s. now (s .1 .1 .1 .0)) × Lent c-table.Post (λ s. now (s .1 .1 .1 .1 .0))
 boundary-tabled = tabling _ _ _ _
+
+pub boundary-refit : Once c-refit.Post × Lent c-refit.Post (λ s. now (s .1 .0)) × Lent c-refit.Post (λ s. now (s .1 .1 .0))
+boundary-refit = refitting _ _ _ _ _

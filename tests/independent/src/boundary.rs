@@ -54,6 +54,16 @@ pub struct Reading {
     pub curvature: i32,
 }
 
+/// What kaihveto_refit answers.
+#[repr(C)]
+#[derive(Clone, Copy, Debug, Default, PartialEq, Eq)]
+pub struct Refitted {
+    pub number: u32,
+    pub place: u32,
+    pub knots: u32,
+    pub changed: u32,
+}
+
 /// An end as the boundary takes it: a code number and the two numbers beside it.
 #[derive(Clone, Copy, Debug)]
 pub struct End {
@@ -119,6 +129,14 @@ extern "C" {
         curvatures_length: usize,
     ) -> Checked;
     fn kaihveto_reading(card: *const u8, card_length: usize, minute: u16) -> Reading;
+    fn kaihveto_refit(
+        card: *const u8,
+        card_length: usize,
+        slopes: *mut i32,
+        slopes_length: usize,
+        curvatures: *mut i32,
+        curvatures_length: usize,
+    ) -> Refitted;
 }
 
 // Each call below passes pointers and lengths of slices that live until it returns and, where they are lent for writing, overlap no other.
@@ -205,4 +223,8 @@ pub fn read(card: &[u8], minutes: &mut [u16], ordinates: &mut [i16], slopes: &mu
 
 pub fn reading(card: &[u8], minute: u16) -> Reading {
     unsafe { kaihveto_reading(card.as_ptr(), card.len(), minute) }
+}
+
+pub fn refit(card: &[u8], slopes: &mut [i32], curvatures: &mut [i32]) -> Refitted {
+    unsafe { kaihveto_refit(card.as_ptr(), card.len(), slopes.as_mut_ptr(), slopes.len(), curvatures.as_mut_ptr(), curvatures.len()) }
 }

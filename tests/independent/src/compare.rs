@@ -185,3 +185,18 @@ pub fn readings(tally: &mut Tally, card: &[u8]) {
         compare_reading(tally, card, minute, reference::reading_of(&sound, minute));
     }
 }
+
+/// A card fitted anew, into lists of these lengths.
+pub fn refit(tally: &mut Tally, card: &[u8], lengths: [usize; 2]) {
+    let lists = lengths.map(i32_pattern);
+    let [mut slopes, mut curvatures] = lists.clone();
+    let ours = boundary::refit(card, lent(&mut slopes), lent(&mut curvatures));
+    let [mut wanted_slopes, mut wanted_curvatures] = lists;
+    let wanted = reference::refit(card, lent(&mut wanted_slopes), lent(&mut wanted_curvatures));
+    let wanted_answer = match wanted {
+        Ok(reference::Refitted { knots, changed }) => boundary::Refitted { knots, changed, ..Default::default() },
+        Err(Refusal { number, place }) => boundary::Refitted { number, place, ..Default::default() },
+    };
+    let alike = slopes == wanted_slopes && curvatures == wanted_curvatures;
+    tally.count(number(&wanted), ours, wanted_answer, alike, || format!("refit {} into {lengths:?}", hex(card)));
+}

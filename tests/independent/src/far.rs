@@ -1,7 +1,7 @@
 //! The library's functions on a machine that cannot link them, since the archive is for x86-64: each call goes to tests/c/far.c, which is linked with the archive and
 //! runs in a process of its own. KAIHVETO_FAR names that program, and KAIHVETO_RUN the command that runs it.
 
-use crate::boundary::{Checked, Fitted, Mean, Reading, Written};
+use crate::boundary::{Checked, Fitted, Mean, Reading, Refitted, Written};
 use std::env;
 use std::io::{BufReader, Read, Write};
 use std::mem::{size_of, MaybeUninit};
@@ -178,4 +178,19 @@ pub unsafe fn kaihveto_read(
 
 pub unsafe fn kaihveto_reading(card: *const u8, card_length: usize, minute: u16) -> Reading {
     Call::new(b'o').list(card, card_length).number(minute.into()).made().answer()
+}
+
+pub unsafe fn kaihveto_refit(
+    card: *const u8,
+    card_length: usize,
+    slopes: *mut i32,
+    slopes_length: usize,
+    curvatures: *mut i32,
+    curvatures_length: usize,
+) -> Refitted {
+    let mut far = Call::new(b'a').list(card, card_length).list(slopes, slopes_length).list(curvatures, curvatures_length).made();
+    let answer = far.answer();
+    far.list(slopes, slopes_length);
+    far.list(curvatures, curvatures_length);
+    answer
 }

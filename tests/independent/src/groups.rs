@@ -130,6 +130,7 @@ fn card(tally: &mut Tally, random: &mut Random, bytes: &[u8]) {
     compare::check(tally, bytes);
     let places = random.pick(&[0, 2, 3, 5, 63, 64, 66]);
     compare::read(tally, bytes, [places; 4]);
+    compare::refit(tally, bytes, [places; 2]);
     let minute = if bytes.len() > 16 { u16::from_le_bytes([bytes[14], bytes[15]]) } else { 0 };
     compare::reading(tally, bytes, minute.wrapping_add(random.within(0, 6) as u16));
 }
@@ -333,11 +334,65 @@ fn writers(tally: &mut Tally, random: &mut Random) {
     }
 }
 
+/// A card fitted anew, into lists of every useful length, equal and not.
+fn refit_into_all(tally: &mut Tally, bytes: &[u8], n: usize) {
+    for places in [0, n - 1, n, n + 1, 66] {
+        compare::refit(tally, bytes, [places; 2]);
+        compare::refit(tally, bytes, [places, n + 2]);
+        compare::refit(tally, bytes, [n + 2, places]);
+    }
+}
+
+/// Fitted cards of every number of knots and every mix of ends: as they were fitted, with one number changed a little or as far as it passes the jump test, with
+/// several changed, with other codes, and spoilt.
+fn refits(tally: &mut Tally, random: &mut Random) {
+    for n in 3..=MOST_KNOTS {
+        for [left, right] in mixes() {
+            let numbers = curves::fitted(random, n, left, right);
+            refit_into_all(tally, &numbers.bytes(), n);
+            for place in 0..n {
+                for change in [-1, 1, random.within(-40, 40) as i32] {
+                    let mut changed = numbers.clone();
+                    changed.slopes[place] += change;
+                    compare::refit(tally, &changed.bytes(), [n; 2]);
+                    let mut changed = numbers.clone();
+                    changed.curvatures[place] += change;
+                    compare::refit(tally, &changed.bytes(), [n; 2]);
+                }
+            }
+            for place in [0, random.below(n), n - 1] {
+                for (slope, step) in [(true, 1), (true, -1), (false, 1), (false, -1)] {
+                    let (within, past) = curves::about_the_allowance(&numbers, place, slope, step);
+                    compare::refit(tally, &within.bytes(), [n + random.below(3); 2]);
+                    compare::refit(tally, &past.bytes(), [n; 2]);
+                }
+            }
+            for _ in 0..10 {
+                let mut changed = numbers.clone();
+                for _ in 0..random.within(1, 6) {
+                    changed.slopes[random.below(n)] += random.within(-2, 2) as i32;
+                    changed.curvatures[random.below(n)] += random.within(-2, 2) as i32;
+                }
+                compare::refit(tally, &changed.bytes(), [n; 2]);
+            }
+            for [left, right] in mixes() {
+                compare::refit(tally, &Numbers { left, right, ..numbers.clone() }.bytes(), [n; 2]);
+            }
+        }
+    }
+    for turn in 0..6_000 {
+        let made = if turn % 2 == 0 { curves::large_and_sound(random) } else { curves::carried(random, 3 + turn / 2 % 3) };
+        for numbers in made.into_iter().chain([curves::extreme(random, 3)]) {
+            compare::refit(tally, &numbers.bytes(), [66; 2]);
+        }
+    }
+}
+
 type Group = fn(&mut Tally, &mut Random);
 
 /// Runs every group, prints the numbers, and says whether nothing differed.
 pub fn all() -> bool {
-    let groups: [(&str, Group); 10] = [
+    let groups: [(&str, Group); 11] = [
         ("logs", logs),
         ("fits", fits),
         ("given numbers", given),
@@ -348,6 +403,7 @@ pub fn all() -> bool {
         ("readings", readings),
         ("near the allowance", near_the_allowance),
         ("limits", limits),
+        ("cards fitted anew", refits),
     ];
     let mut tally = Tally::default();
     for (seed, (name, group)) in groups.iter().enumerate() {

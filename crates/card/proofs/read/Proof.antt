@@ -4,6 +4,7 @@ use mathlib.Core.Path.{_≡_, sym, ap, _∙_}
 use mathlib.Core.List.{List}
 use Prim.Native.Nat.{ℕ}
 use native.Mathlib.Omega.{arith}
+use lib.ListN.{length}
 use denote.Ref.{now}
 use Rattle.answer.specs.Answer.{accepted}
 use Rattle.answer.specs.Judge.{verdict-of}
@@ -28,7 +29,7 @@ lent c = let a = c .before .before .before .before .before .args in lists (a .mi
 verdict-is : (c : tie.After-into) → verdict-of (c .into .result) ≡ into (lent c) (bytes c)
 verdict-is c = c .into .ensures ∙ into-is (lent c) (bytes c) (c .before .before .by-head .ensures)
 
-took : (c : tie.After-into) → verdict-of (c .into .result) ≡ accepted → Taken (lent c) (bytes c)
+took : (c : tie.After-into) → verdict-of (c .into .result) ≡ accepted → (let l = lent c in Taken (length (l .minutes)) (length (l .ordinates)) (length (l .slopes)) (length (l .curvatures)) (bytes c))
 took c e = taken (lent c) (bytes c) (sym (verdict-is c) ∙ e)
 
 holds : (c : tie.After-into) → verdict-of (c .into .result) ≡ accepted → Holds (c .before .before .by-head .result .card) (bytes c)

@@ -1,0 +1,126 @@
+// A card's own knots fitted anew, and how many of the card's slopes and curvatures are not that fit's: numbers that were typed over on a card and still pass the jump
+// test. The order of the tests is that of the reader, "Card into lent lists", and then the fit's own. Nothing is asked of the caller.
+use answer::Judged;
+use decode::Card;
+use opened::Opened;
+ghost use mathlib.Core.Path.{_≡_};
+ghost use Prim.Native.Nat.{_<_, _≤_};
+ghost use lib.ListN.{length};
+ghost use lib.IntN.{ℤ-discrete};
+ghost use Rattle.decode.specs.Decoded.{most, decoded, Full};
+ghost use Rattle.fit.specs.Promise.{Fits};
+ghost use Rattle.refit.specs.Differing.{differing};
+ghost use Rattle.refit.specs.Fresh.{hundredths, fresh};
+ghost use Rattle.refit.specs.Promise.{changed, Refits, Renews};
+
+// Zeros behind a refusal.
+#[repr(C)]
+pub struct Refitted {
+    pub number: u32,
+    pub place: u32,
+    pub knots: u32,
+    pub changed: u32,
+}
+
+// A number of the card as one given for an end; both steps are exact.
+fn hundredths(number: i32) -> f64
+    ensures { λ r. ⌜ r ≡ hundredths number ⌝ }
+{
+    (number as f64) / 4096.0
+}
+
+// At how many places two lists differ.
+fn differing(held: &[i32], anew: &[i32]) -> u32
+    requires { ⌜ (length (now held) ≤ most) × (length (now anew) ≡ length (now held)) ⌝ }
+    ensures { λ r. ⌜ (r ≡ differing ℤ-discrete (now (held .entry)) (now (anew .entry))) × (r ≤ most) ⌝ }
+{
+    let mut count = 0;
+    let mut i = 0;
+    while i < held.len() {
+        if held[i] != anew[i] {
+            count += 1;
+        }
+        i += 1;
+    }
+    count
+}
+
+// The fresh fit of a card, to lists of its n places.
+fn fresh(card: Card, slopes: &mut [i32], curvatures: &mut [i32]) -> fit::Fitted
+    requires { ⌜ Full card × (0 < card .knots) ⌝ }
+    requires { ⌜ (length (now slopes) ≡ card .knots) × (length (now curvatures) ≡ card .knots) ⌝ }
+    ensures { λ r. ⌜ Fits (fresh (decoded card)) (now (slopes .entry)) (now (curvatures .entry)) (now (slopes .exit)) (now (curvatures .exit)) r ⌝ }
+{
+    let n = card.knots;
+    let last = n - 1;
+    let minutes = card.minutes;
+    let ordinates = card.ordinates;
+    let m = card.slopes;
+    let c = card.curvatures;
+    fit::fit_codes(
+        &minutes[..n],
+        &ordinates[..n],
+        slopes,
+        curvatures,
+        card.left,
+        hundredths(m[0]),
+        hundredths(c[0]),
+        card.right,
+        hundredths(m[last]),
+        hundredths(c[last]),
+    )
+}
+
+// How many of a card's numbers are not those of two lists of its n places.
+fn changed(card: Card, slopes: &[i32], curvatures: &[i32]) -> u32
+    requires { ⌜ Full card ⌝ }
+    requires { ⌜ (length (now slopes) ≡ card .knots) × (length (now curvatures) ≡ card .knots) ⌝ }
+    ensures { λ r. ⌜ r ≡ changed (decoded card) (now (slopes .entry)) (now (curvatures .entry)) ⌝ }
+{
+    let n = card.knots;
+    let m = card.slopes;
+    let c = card.curvatures;
+    differing(&m[..n], slopes) + differing(&c[..n], curvatures)
+}
+
+// The fit's own refusals; the numbers are written and counted where it has none.
+fn anew(card: Card, slopes: &mut [i32], curvatures: &mut [i32]) -> Refitted
+    requires { ⌜ Full card × (0 < card .knots) ⌝ }
+    requires { ⌜ (length (now slopes) ≡ card .knots) × (length (now curvatures) ≡ card .knots) ⌝ }
+    ensures { λ r. ⌜ Renews (decoded card) (now (slopes .entry)) (now (curvatures .entry)) (now (slopes .exit)) (now (curvatures .exit)) r ⌝ }
+{
+    let fitted = fresh(card, slopes, curvatures);
+    if fitted.number == 0 {
+        return Refitted {
+            number: 0,
+            place: 0,
+            knots: card.knots as u32,
+            changed: changed(card, slopes, curvatures),
+        };
+    }
+    Refitted {
+        number: fitted.number,
+        place: fitted.place,
+        knots: 0,
+        changed: 0,
+    }
+}
+
+// On acceptance n places of each list are written.
+pub fn refit(card: &[u8], slopes: &mut [i32], curvatures: &mut [i32]) -> Refitted
+    ensures { λ r. ⌜ Refits (now (card .entry)) (now (slopes .entry)) (now (curvatures .entry)) (now (slopes .exit)) (now (curvatures .exit)) r ⌝ }
+{
+    let opened = Opened::by_head(card);
+    let held = opened.card;
+    let n = held.knots;
+    let lent = slopes.len();
+    match card::into(opened, lent, lent, lent, curvatures.len()) {
+        Judged::Refused(number, place) => Refitted {
+            number,
+            place,
+            knots: 0,
+            changed: 0,
+        },
+        Judged::Accepted => anew(held, &mut slopes[..n], &mut curvatures[..n]),
+    }
+}
