@@ -1,0 +1,166 @@
+// What is done with a card's file: list, check, at, table, points.
+use crate::arguments::Asked;
+use answer::Judged;
+use decode::Card;
+use opened::Opened;
+
+// With the number of the first argument behind the card, or how many minutes a line is printed for.
+enum Job {
+    List,
+    Check,
+    At(usize),
+    Table(u16),
+    Points,
+    None,
+}
+
+fn list(name: &[u8], bytes: &[u8]) -> u8 {
+    let mut text = io::buffer();
+    let listed = card_listing::list_card(bytes, &mut text);
+    if listed.number != 0 {
+        return crate::tell::refused(name, listed.number, listed.place);
+    }
+    crate::tell::print(crate::tell::front(&text, listed.length))
+}
+
+fn print_reading(minute: u16, reading: lists::CardReading) -> u8 {
+    let mut text = io::buffer();
+    let n = crate::tables::put_reading(
+        &mut text,
+        0,
+        minute,
+        reading.value,
+        reading.slope,
+        reading.curvature,
+    );
+    crate::tell::print(crate::tell::front(&text, n))
+}
+
+fn read_off(name: &[u8], bytes: &[u8], minute: u16) -> u8 {
+    let reading = card::reading(bytes, minute);
+    if reading.number == 0 {
+        return print_reading(minute, reading);
+    }
+    if reading.number == 11 {
+        return crate::tell::refused_at(name, minute, reading.number, reading.place);
+    }
+    crate::tell::refused(name, reading.number, reading.place)
+}
+
+fn at_argument(name: &[u8], bytes: &[u8], i: usize) -> u8 {
+    match crate::arguments::number(i) {
+        Asked::Nothing => crate::tell::FAILED,
+        Asked::Whole(minute) => read_off(name, bytes, minute),
+    }
+}
+
+// Each minute is answered, also behind one that is refused.
+fn at(name: &[u8], bytes: &[u8], count: usize) -> u8 {
+    let checked = card::check(bytes);
+    if checked.number != 0 {
+        return crate::tell::refused(name, checked.number, checked.place);
+    }
+    let mut status = crate::tell::DONE;
+    let mut i: usize = 3;
+    while i < count {
+        status = crate::tell::graver(status, at_argument(name, bytes, i));
+        i += 1;
+    }
+    status
+}
+
+fn sound(name: &[u8], bytes: &[u8], card: Card, job: Job) -> u8 {
+    let minutes = card.minutes;
+    match job {
+        Job::Check => crate::checks::report(name, bytes, card),
+        Job::Table(every) => crate::tables::print(bytes, minutes[0], every),
+        Job::Points => {
+            let listed = list(name, bytes);
+            crate::tell::graver(listed, crate::tables::print(bytes, minutes[0], 1))
+        }
+        _ => crate::tell::FAILED,
+    }
+}
+
+fn opened(name: &[u8], bytes: &[u8], job: Job) -> u8 {
+    let opened = Opened::by_head(bytes);
+    let verdict = opened.verdict;
+    let card = opened.card;
+    match verdict {
+        Judged::Refused(number, place) => crate::tell::refused(name, number, place),
+        Judged::Accepted => sound(name, bytes, card, job),
+    }
+}
+
+fn with(name: &[u8], bytes: &[u8], job: Job) -> u8 {
+    match job {
+        Job::List => list(name, bytes),
+        Job::At(count) => at(name, bytes, count),
+        _ => opened(name, bytes, job),
+    }
+}
+
+// No card has more than 1,038 bytes, and what follows one is told by its first byte.
+fn with_file(name: &[u8], job: Job) -> u8 {
+    let mut bytes = io::buffer();
+    let got = crate::files::load(name, &mut bytes);
+    if got < 0 {
+        return crate::tell::FAILED;
+    }
+    let n = io::count(got, &bytes);
+    with(name, &bytes[..n], job)
+}
+
+fn with_argument(i: usize, job: Job) -> u8 {
+    let mut name = io::buffer();
+    let n = os::arg(i, &mut name);
+    with_file(&name[..n], job)
+}
+
+// Each card is answered, also behind one that is refused.
+fn check(count: usize) -> u8 {
+    let mut status = crate::tell::DONE;
+    let mut i: usize = 2;
+    while i < count {
+        status = crate::tell::graver(status, with_argument(i, Job::Check));
+        i += 1;
+    }
+    status
+}
+
+fn table(count: usize) -> u8 {
+    if count < 4 {
+        return with_argument(2, Job::Table(1));
+    }
+    match crate::arguments::number(3) {
+        Asked::Nothing => crate::tell::FAILED,
+        Asked::Whole(every) => with_argument(2, Job::Table(every)),
+    }
+}
+
+// What is not a number is told before anything is printed.
+fn minutes(count: usize) -> u8 {
+    if crate::arguments::all_numbers(3, count) {
+        return with_argument(2, Job::At(count));
+    }
+    crate::tell::FAILED
+}
+
+pub(crate) fn run(command: &[u8], count: usize) -> u8 {
+    if crate::arguments::same(command, b"list") {
+        return with_argument(2, Job::List);
+    }
+    if crate::arguments::same(command, b"check") {
+        return check(count);
+    }
+    if crate::arguments::same(command, b"at") {
+        return minutes(count);
+    }
+    if crate::arguments::same(command, b"table") {
+        return table(count);
+    }
+    if crate::arguments::same(command, b"points") {
+        return with_argument(2, Job::Points);
+    }
+    crate::tell::FAILED
+}

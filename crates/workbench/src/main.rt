@@ -1,0 +1,36 @@
+// What stands behind the command `kaihveto`: workbench fit SHEET [CARD], list CARD, check CARD .., at CARD MINUTE .., table CARD [EVERY], points CARD, mean MINUTE LOG, why NUMBER,
+// save FILE. Results go to standard output, complaints to standard error, and one byte to descriptor 3, since a program of Rattle has no exit status (`tell`). What is proved of the
+// lines is said in the crates that are called; here every function is proved safe and ending.
+mod arguments;
+mod cards;
+mod checks;
+mod files;
+mod line;
+mod logs;
+mod numbers;
+mod sheets;
+mod tables;
+mod tell;
+
+fn run(command: &[u8], count: usize) -> u8 {
+    if arguments::same(command, b"fit") {
+        return sheets::fit(count);
+    }
+    if arguments::same(command, b"mean") {
+        return logs::mean();
+    }
+    if arguments::same(command, b"why") {
+        return numbers::why();
+    }
+    if arguments::same(command, b"save") {
+        return files::save_input();
+    }
+    cards::run(command, count)
+}
+
+fn main() {
+    let mut command = io::buffer();
+    let n = os::arg(1, &mut command);
+    let status = run(&command[..n], os::arg_count());
+    io::write_all(3, &[status]);
+}
