@@ -39,9 +39,11 @@
      kaihveto_mean      128        kaihveto_check    3,072        kaihveto_fit       8,192
      kaihveto_write     512        kaihveto_read     4,096        kaihveto_fit_ends  8,192
                                    kaihveto_reading  4,096        kaihveto_refit    10,240
+                                   kaihveto_table    4,096
 
    Time. A reading tests the whole card every time and only then looks up the minute: some 1 to 2 microseconds at 64 knots
-   (docs/FIGURES.md, "Speed"). A controller that reads once a minute needs to keep nothing but the card's bytes. */
+   (docs/FIGURES.md, "Speed"). A controller that reads once a minute needs to keep nothing but the card's bytes. A table tests
+   the card once and then reads minute after minute. */
 
 #ifndef KAIHVETO_H
 #define KAIHVETO_H
@@ -87,7 +89,7 @@ enum kaihveto_number {
     KAIHVETO_ACCEPTED = 0,             /* accepted */
     KAIHVETO_TOO_FEW_KNOTS = 1,        /* fewer than 3 knots */
     KAIHVETO_TOO_MANY_KNOTS = 2,       /* more than 64 knots */
-    KAIHVETO_LENGTHS_DIFFER = 3,       /* the lists of minutes, ordinates, slopes, curvatures differ in length */
+    KAIHVETO_LENGTHS_DIFFER = 3,       /* the lists that a call lends differ in length */
     KAIHVETO_MINUTE_NOT_RISING = 4,    /* minute not above the one before; place: the knot */
     KAIHVETO_GAP_TOO_WIDE = 5,         /* gap over 60 minutes; place: its right knot */
     KAIHVETO_ORDINATE_BEYOND = 6,      /* ordinate beyond 20,000 either way; place: the knot */
@@ -190,6 +192,22 @@ typedef struct {
 } kaihveto_reading_answer;
 
 kaihveto_reading_answer kaihveto_reading(const uint8_t *card, size_t card_length, uint16_t minute);
+
+/* Reads the curve off a card's bytes at the minutes from, from + 1 and so on, into three lists of one length: place i has what
+   kaihveto_reading gives at minute from + i. There are as many readings as the lists have places or as the card has minutes
+   from there on, its last knot's minute being the last, whichever is less: on acceptance these first places of each list are
+   written, and no other. The answer has how many they are; with lists of length 0 that is 0. The card is tested once.
+   Refusals, in this order: 3, those of kaihveto_check, 11 where the first minute is outside the card. */
+typedef struct {
+    uint32_t number;
+    uint32_t place;
+    uint32_t count;
+} kaihveto_table_answer;
+
+kaihveto_table_answer kaihveto_table(const uint8_t *card, size_t card_length, uint16_t from,
+                                     int32_t *values, size_t values_length,
+                                     int32_t *slopes, size_t slopes_length,
+                                     int32_t *curvatures, size_t curvatures_length);
 
 /* Fits a card's own knots anew, into two lists of one length: on acceptance the first n places of each, n being the card's
    number of knots, and no other. The ends have the card's codes, and a number that a code gives is the card's own there. The

@@ -1,6 +1,7 @@
-//! Times four functions of the library beside plain Rust that does the same with the same refusals: the fit of 64 knots, a
-//! reading off a card of 64 knots, the check of such a card, the mean of 60 bytes. The two are compared first. Rounds of
-//! the one and the other take turns; each number is the median round, in nanoseconds for one call.
+//! Times five functions of the library beside plain Rust that does the same with the same refusals: the fit of 64 knots, a
+//! reading off a card of 64 knots, the check of such a card, the mean of 60 bytes, the table of all minutes of such a card. The
+//! two are compared first. Rounds of the one and the other take turns; each number is the median round, in nanoseconds for one
+//! call, and of a table for one of its readings.
 
 mod plain;
 
@@ -57,9 +58,31 @@ fn same_card(bytes: &[u8]) {
     }
 }
 
+/// The two tables from a minute on, into lists of a pattern, must leave the same.
+fn same_table(bytes: &[u8], from: u16, lengths: [usize; 3]) {
+    let mut lists = [lengths.map(|n| vec![7; n]), lengths.map(|n| vec![7; n])];
+    let [[values, slopes, curvatures], [other_values, other_slopes, other_curvatures]] = &mut lists;
+    let answer = boundary::table(bytes, from, values, slopes, curvatures);
+    assert_eq!(answer, plain::table(bytes, from, other_values, other_slopes, other_curvatures), "table from {from} off {bytes:?}");
+    assert_eq!(lists[0], lists[1], "table from {from} off {bytes:?}");
+}
+
+/// From the first minute of a card, of which each list has a place for all.
+fn all_minutes(card: &Numbers) -> (u16, usize) {
+    let (first, last) = (card.sheet.minutes[0], card.sheet.minutes[KNOTS - 1]);
+    (first, usize::from(last - first) + 1)
+}
+
 /// Sound and unsound inputs of each kind, so that plain Rust is seen to refuse alike.
 fn compare(inputs: &Inputs, random: &mut Random) {
-    for bytes in &inputs.bytes {
+    for (card, bytes) in inputs.cards.iter().zip(&inputs.bytes) {
+        let (first, all) = all_minutes(card);
+        for length in [0, 1, all - 1, all, all + 1] {
+            same_table(bytes, first, [length; 3]);
+            same_table(bytes, first + random.below(all + 2) as u16, [length; 3]);
+            same_table(bytes, first, [length, 1, length]);
+            same_table(&bytes[1..], first, [length; 3]);
+        }
         same_card(bytes);
         same_card(&bytes[..random.below(bytes.len())]);
         for _ in 0..300 {
@@ -107,15 +130,20 @@ fn median(mut times: Vec<f64>) -> f64 {
     times[times.len() / 2]
 }
 
-fn line(name: &str, mut ours: impl FnMut(usize), mut other: impl FnMut(usize)) {
-    let turns = 1 + (ROUND_NANOSECONDS / (INPUTS as f64 * round(200, &mut other))) as usize;
+fn line(name: &str, ours: impl FnMut(usize), other: impl FnMut(usize)) {
+    line_of(1.0, name, ours, other);
+}
+
+/// Of calls of so many parts, each a number of its own: nanoseconds for one part.
+fn line_of(parts: f64, name: &str, mut ours: impl FnMut(usize), mut other: impl FnMut(usize)) {
+    let turns = 1 + (ROUND_NANOSECONDS / (INPUTS as f64 * round((200.0 / parts).ceil() as usize, &mut other))) as usize;
     round(turns, &mut ours);
     let (mut our_times, mut other_times) = (Vec::new(), Vec::new());
     for _ in 0..ROUNDS {
         our_times.push(round(turns, &mut ours));
         other_times.push(round(turns, &mut other));
     }
-    let (ours, other) = (median(our_times), median(other_times));
+    let (ours, other) = (median(our_times) / parts, median(other_times) / parts);
     println!("{name:<36} {ours:>10.1} {other:>14.1} {:>8.2}", ours / other);
 }
 
@@ -163,6 +191,28 @@ fn main() {
         },
         |i| {
             black_box(plain::mean(black_box(600), black_box(&inputs.logs[i])));
+        },
+    );
+
+    let tables: Vec<(u16, usize)> = inputs.cards.iter().map(all_minutes).collect();
+    let longest = tables.iter().map(|table| table.1).max().unwrap_or(0);
+    let readings = tables.iter().map(|table| table.1).sum::<usize>() as f64 / INPUTS as f64;
+    let columns = || [(); 3].map(|()| vec![0; longest]);
+    let ([mut values, mut slopes, mut curvatures], [mut other_values, mut other_slopes, mut other_curvatures]) = (columns(), columns());
+    line_of(
+        readings,
+        "a reading of a table of 64 knots",
+        |i| {
+            let (first, all) = tables[i];
+            let bytes = black_box(&inputs.bytes[i]);
+            black_box(boundary::table(bytes, first, &mut values[..all], &mut slopes[..all], &mut curvatures[..all]));
+            black_box((&values, &slopes, &curvatures));
+        },
+        |i| {
+            let (first, all) = tables[i];
+            let bytes = black_box(&inputs.bytes[i]);
+            black_box(plain::table(bytes, first, &mut other_values[..all], &mut other_slopes[..all], &mut other_curvatures[..all]));
+            black_box((&other_values, &other_slopes, &other_curvatures));
         },
     );
 }

@@ -116,6 +116,17 @@ int main(void) {
             free(a.first);
             break;
         }
+        case 't': {
+            e = list(1);
+            uint64_t from = number();
+            a = list(4), b = list(4), c = list(4);
+            kaihveto_table_answer r =
+                kaihveto_table(e.first, e.length, (uint16_t)from, a.first, a.length, b.first, b.length, c.first, c.length);
+            give(&r, sizeof r);
+            give_back(a), give_back(b), give_back(c);
+            free(a.first), free(b.first), free(c.first), free(e.first);
+            break;
+        }
         case 'a': {
             e = list(1), c = list(4), d = list(4);
             kaihveto_refit_answer r = kaihveto_refit(e.first, e.length, c.first, c.length, d.first, d.length);

@@ -4,11 +4,12 @@
 
 #include <stdio.h>
 
-enum { KNOTS = KAIHVETO_MOST_KNOTS, DEPTH = 1 << 16, MOST = 1 << 15, PAINT = 0xa5 };
+enum { KNOTS = KAIHVETO_MOST_KNOTS, GAP = 10, MINUTES = GAP * (KNOTS - 1) + 1, DEPTH = 1 << 16, MOST = 1 << 15, PAINT = 0xa5 };
 
 static uint16_t minutes[KNOTS];
 static int16_t ordinates[KNOTS];
 static int32_t slopes[KNOTS], curvatures[KNOTS];
+static int32_t table_values[MINUTES], table_slopes[MINUTES], table_curvatures[MINUTES];
 static uint8_t card[KAIHVETO_CARD_BYTES(KNOTS)], log_bytes[60];
 
 static uint32_t mean(void) {
@@ -39,6 +40,11 @@ static uint32_t reading(void) {
     return kaihveto_reading(card, sizeof card, 333).number;
 }
 
+static uint32_t table(void) {
+    kaihveto_table_answer r = kaihveto_table(card, sizeof card, 0, table_values, MINUTES, table_slopes, MINUTES, table_curvatures, MINUTES);
+    return r.count == MINUTES ? r.number : 1;
+}
+
 static uint32_t refit(void) {
     return kaihveto_refit(card, sizeof card, slopes, KNOTS, curvatures, KNOTS).number;
 }
@@ -66,7 +72,7 @@ static int line(const char *name, uint32_t (*volatile call)(void)) {
 
 int main(void) {
     for (int i = 0; i < KNOTS; i++) {
-        minutes[i] = (uint16_t)(10 * i);
+        minutes[i] = (uint16_t)(GAP * i);
         ordinates[i] = (int16_t)(4000 + 100 * (i % 7) - 30 * (i % 4));
     }
     int good = line("mean", mean);
@@ -76,6 +82,7 @@ int main(void) {
     good &= line("check", check);
     good &= line("read", read_card);
     good &= line("reading", reading);
+    good &= line("table", table);
     good &= line("refit", refit);
     return good ? 0 : 1;
 }

@@ -78,9 +78,9 @@ fn changed(card: Card, slopes: &[i32], curvatures: &[i32]) -> u32
     ensures { λ r. ⌜ r ≡ changed (decoded card) (now (slopes .entry)) (now (curvatures .entry)) ⌝ }
 {
     let n = card.knots;
-    let m = card.slopes;
-    let c = card.curvatures;
-    differing(&m[..n], slopes) + differing(&c[..n], curvatures)
+    let held_slopes = card.slopes;
+    let held_curvatures = card.curvatures;
+    differing(&held_slopes[..n], slopes) + differing(&held_curvatures[..n], curvatures)
 }
 
 // The fit's own refusals; the numbers are written and counted where it has none.

@@ -54,6 +54,15 @@ pub struct Reading {
     pub curvature: i32,
 }
 
+/// What kaihveto_table answers.
+#[repr(C)]
+#[derive(Clone, Copy, Debug, Default, PartialEq, Eq)]
+pub struct Tabled {
+    pub number: u32,
+    pub place: u32,
+    pub count: u32,
+}
+
 /// What kaihveto_refit answers.
 #[repr(C)]
 #[derive(Clone, Copy, Debug, Default, PartialEq, Eq)]
@@ -129,6 +138,17 @@ extern "C" {
         curvatures_length: usize,
     ) -> Checked;
     fn kaihveto_reading(card: *const u8, card_length: usize, minute: u16) -> Reading;
+    fn kaihveto_table(
+        card: *const u8,
+        card_length: usize,
+        from: u16,
+        values: *mut i32,
+        values_length: usize,
+        slopes: *mut i32,
+        slopes_length: usize,
+        curvatures: *mut i32,
+        curvatures_length: usize,
+    ) -> Tabled;
     fn kaihveto_refit(
         card: *const u8,
         card_length: usize,
@@ -223,6 +243,22 @@ pub fn read(card: &[u8], minutes: &mut [u16], ordinates: &mut [i16], slopes: &mu
 
 pub fn reading(card: &[u8], minute: u16) -> Reading {
     unsafe { kaihveto_reading(card.as_ptr(), card.len(), minute) }
+}
+
+pub fn table(card: &[u8], from: u16, values: &mut [i32], slopes: &mut [i32], curvatures: &mut [i32]) -> Tabled {
+    unsafe {
+        kaihveto_table(
+            card.as_ptr(),
+            card.len(),
+            from,
+            values.as_mut_ptr(),
+            values.len(),
+            slopes.as_mut_ptr(),
+            slopes.len(),
+            curvatures.as_mut_ptr(),
+            curvatures.len(),
+        )
+    }
 }
 
 pub fn refit(card: &[u8], slopes: &mut [i32], curvatures: &mut [i32]) -> Refitted {

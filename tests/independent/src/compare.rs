@@ -186,6 +186,21 @@ pub fn readings(tally: &mut Tally, card: &[u8]) {
     }
 }
 
+/// The table, into lists of these lengths.
+pub fn table(tally: &mut Tally, card: &[u8], from: u16, lengths: [usize; 3]) {
+    let mut ours = lengths.map(i32_pattern);
+    let mut wanted = ours.clone();
+    let [values, slopes, curvatures] = &mut ours;
+    let answer = boundary::table(card, from, lent(values), lent(slopes), lent(curvatures));
+    let [values, slopes, curvatures] = &mut wanted;
+    let wanted_answer = match reference::table(card, from, lent(values), lent(slopes), lent(curvatures)) {
+        Ok(count) => boundary::Tabled { count, ..Default::default() },
+        Err(Refusal { number, place }) => boundary::Tabled { number, place, ..Default::default() },
+    };
+    let input = || format!("table from {from} off {} into {lengths:?}", hex(card));
+    tally.count(wanted_answer.number, answer, wanted_answer, ours == wanted, input);
+}
+
 /// A card fitted anew, into lists of these lengths.
 pub fn refit(tally: &mut Tally, card: &[u8], lengths: [usize; 2]) {
     let lists = lengths.map(i32_pattern);

@@ -1,7 +1,7 @@
 //! The library's functions on a machine that cannot link them, since the archive is for x86-64: each call goes to tests/c/far.c, which is linked with the archive and
 //! runs in a process of its own. KAIHVETO_FAR names that program, and KAIHVETO_RUN the command that runs it.
 
-use crate::boundary::{Checked, Fitted, Mean, Reading, Refitted, Written};
+use crate::boundary::{Checked, Fitted, Mean, Reading, Refitted, Tabled, Written};
 use std::env;
 use std::io::{BufReader, Read, Write};
 use std::mem::{size_of, MaybeUninit};
@@ -178,6 +178,27 @@ pub unsafe fn kaihveto_read(
 
 pub unsafe fn kaihveto_reading(card: *const u8, card_length: usize, minute: u16) -> Reading {
     Call::new(b'o').list(card, card_length).number(minute.into()).made().answer()
+}
+
+#[allow(clippy::too_many_arguments)]
+pub unsafe fn kaihveto_table(
+    card: *const u8,
+    card_length: usize,
+    from: u16,
+    values: *mut i32,
+    values_length: usize,
+    slopes: *mut i32,
+    slopes_length: usize,
+    curvatures: *mut i32,
+    curvatures_length: usize,
+) -> Tabled {
+    let asked = Call::new(b't').list(card, card_length).number(from.into());
+    let mut far = asked.list(values, values_length).list(slopes, slopes_length).list(curvatures, curvatures_length).made();
+    let answer = far.answer();
+    far.list(values, values_length);
+    far.list(slopes, slopes_length);
+    far.list(curvatures, curvatures_length);
+    answer
 }
 
 pub unsafe fn kaihveto_refit(

@@ -334,6 +334,77 @@ fn writers(tally: &mut Tally, random: &mut Random) {
     }
 }
 
+/// One card's table: from either end, from within and from outside, into lists that are too short, just right and too long.
+fn whole_table(tally: &mut Tally, random: &mut Random, numbers: &Numbers) {
+    let bytes = numbers.bytes();
+    let minutes = &numbers.sheet.minutes;
+    let (first, last) = (minutes[0], minutes[minutes.len() - 1]);
+    let all = usize::from(last - first) + 1;
+    for length in [all - 1, all, all + 7] {
+        compare::table(tally, &bytes, first, [length; 3]);
+    }
+    let within = random.within(first.into(), last.into()) as u16;
+    let outside = [first.wrapping_sub(1), last.wrapping_add(1), 0, u16::MAX];
+    for from in [first, first + 1, within, minutes[1], last - 1, last].into_iter().chain(outside) {
+        for length in [0, 1, 2, random.below(9)] {
+            compare::table(tally, &bytes, from, [length; 3]);
+        }
+    }
+}
+
+/// The same card with its last knot at the last of all minutes.
+fn at_the_last_minute(numbers: &Numbers) -> Numbers {
+    let mut moved = numbers.clone();
+    let minutes = &mut moved.sheet.minutes;
+    let behind = u16::MAX - minutes[minutes.len() - 1];
+    minutes.iter_mut().for_each(|minute| *minute += behind);
+    moved
+}
+
+/// Tables off sound cards, wild ones and spoilt ones, into lists of one length and of several.
+fn tables(tally: &mut Tally, random: &mut Random) {
+    for n in 3..=MOST_KNOTS {
+        for [left, right] in mixes() {
+            if n < 9 || n == MOST_KNOTS || random.once_in(6) {
+                let numbers = curves::fitted(random, n, left, right);
+                whole_table(tally, random, &numbers);
+                whole_table(tally, random, &at_the_last_minute(&numbers));
+            }
+        }
+    }
+    for turn in 0..600 {
+        let made = if turn % 2 == 0 { curves::large_and_sound(random) } else { curves::carried(random, 3 + turn / 2 % 3) };
+        if let Some(numbers) = made {
+            whole_table(tally, random, &numbers);
+        }
+    }
+    let sound = curves::fitted(random, 5, 0, 0);
+    let bytes = sound.bytes();
+    let first = sound.sheet.minutes[0];
+    for spoilt in 0..=bytes.len() {
+        for from in [first, first.wrapping_sub(1)] {
+            let mut changed = bytes.clone();
+            if spoilt < bytes.len() {
+                changed[spoilt] ^= 1 << random.below(8);
+                compare::table(tally, &bytes[..spoilt], from, [4; 3]);
+            }
+            let sizes = [0, 1, 4, 300];
+            for choice in 0..sizes.len().pow(3) {
+                compare::table(tally, &changed, from, [1, 4, 16].map(|power| sizes[choice / power % 4]));
+            }
+        }
+    }
+    for _ in 0..4_000 {
+        let n = random.within(3, 6) as usize;
+        let mut numbers = curves::extreme(random, n);
+        if random.once_in(3) {
+            curves::spoil(random, &mut numbers.sheet);
+        }
+        let from = numbers.sheet.minutes[0].wrapping_add(random.within(-1, 6) as u16);
+        compare::table(tally, &numbers.bytes(), from, [random.below(5); 3]);
+    }
+}
+
 /// A card fitted anew, into lists of every useful length, equal and not.
 fn refit_into_all(tally: &mut Tally, bytes: &[u8], n: usize) {
     for places in [0, n - 1, n, n + 1, 66] {
@@ -392,7 +463,7 @@ type Group = fn(&mut Tally, &mut Random);
 
 /// Runs every group, prints the numbers, and says whether nothing differed.
 pub fn all() -> bool {
-    let groups: [(&str, Group); 11] = [
+    let groups: [(&str, Group); 12] = [
         ("logs", logs),
         ("fits", fits),
         ("given numbers", given),
@@ -403,6 +474,7 @@ pub fn all() -> bool {
         ("readings", readings),
         ("near the allowance", near_the_allowance),
         ("limits", limits),
+        ("tables", tables),
         ("cards fitted anew", refits),
     ];
     let mut tally = Tally::default();

@@ -9,8 +9,8 @@ use borrow.Author.Needs.{needs}
 use Rattle.refit.proofs.changed.Statement.{statement}
 use Rattle.refit.proofs.changed.Tie as tie
 
-array-share-prefix-m : tie.Need-array-share-prefix-m
-array-share-prefix-m c = search needs
+array-share-prefix-held-slopes : tie.Need-array-share-prefix-held-slopes
+array-share-prefix-held-slopes c = search needs
 
 slice-aggregate-differing : tie.Need-slice-aggregate-differing
 slice-aggregate-differing c = sym (length-take-le _ _ (c .before .before .before .pre .0 .slopes))
@@ -21,8 +21,8 @@ differing-requires c κs =
     let n = length-take-le (s .args .card .knots) (s .args .card .slopes) (s .pre .0 .slopes) in
     (omega (arith, n, s .pre .0 .few), s .pre .1 .0 ∙ sym n)
 
-array-share-prefix-c : tie.Need-array-share-prefix-c
-array-share-prefix-c c = search needs
+array-share-prefix-held-curvatures : tie.Need-array-share-prefix-held-curvatures
+array-share-prefix-held-curvatures c = search needs
 
 slice-aggregate-differing-2 : tie.Need-slice-aggregate-differing-2
 slice-aggregate-differing-2 c = sym (length-take-le _ _ (c .before .before .before .before .before .pre .0 .curvatures))
@@ -44,10 +44,10 @@ pub changed-spec : {M : Type 1} → statement M
 changed-spec =
     tie.close
     (tie.spec
-    array-share-prefix-m
+    array-share-prefix-held-slopes
     slice-aggregate-differing
     differing-requires
-    array-share-prefix-c
+    array-share-prefix-held-curvatures
     slice-aggregate-differing-2
     differing-requires-2
     add-result
