@@ -29,18 +29,24 @@ fn load_file(path: &[u8], bytes: &mut [u8]) -> isize {
         return -1;
     }
     let got = load_from(from, bytes);
-    if got < 0 {
-        return -1;
-    }
     libc::close(from);
     got
+}
+
+// A name that does not fit into its buffer comes here as an empty one.
+fn fail_to_load(path: &[u8]) {
+    if path.len() == 0 {
+        os::fail(b"a name that is empty or longer than 4096 bytes");
+        return;
+    }
+    os::fail(path);
 }
 
 // How many bytes were read; a negative number where that failed, which is told.
 pub(crate) fn load(path: &[u8], bytes: &mut [u8]) -> isize {
     let got = load_file(path, bytes);
     if got < 0 {
-        os::fail(path);
+        fail_to_load(path);
     }
     got
 }
@@ -89,19 +95,18 @@ fn save_by(path: &[u8], beside: &[u8], bytes: &[u8]) -> u8 {
     settle(path, beside, to)
 }
 
-fn too_long(path: &[u8]) -> u8 {
-    io::write_all(2, path);
-    io::write_all(2, b": the name is too long\n");
+fn too_long() -> u8 {
+    io::write_all(2, b"kaihveto: the name behind -o is too long\n");
     crate::tell::FAILED
 }
 
-// Bytes as a file, or to standard output.
+// Bytes as a file, or to standard output. No file has an empty name: one that does not fit into its buffer comes here as such.
 pub(crate) fn save(path: &[u8], bytes: &[u8]) -> u8 {
     if is_dash(path) {
         return crate::tell::print(bytes);
     }
-    if LONGEST < path.len() {
-        return too_long(path);
+    if path.len() == 0 || LONGEST < path.len() {
+        return too_long();
     }
     let mut name = io::buffer();
     let n = beside(path, &mut name);
@@ -137,8 +142,8 @@ fn copy_by(path: &[u8], beside: &[u8]) -> u8 {
 }
 
 fn copy_input(path: &[u8]) -> u8 {
-    if LONGEST < path.len() {
-        return too_long(path);
+    if path.len() == 0 || LONGEST < path.len() {
+        return too_long();
     }
     let mut name = io::buffer();
     let n = beside(path, &mut name);

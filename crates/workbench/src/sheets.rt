@@ -20,8 +20,8 @@ fn saved(sheet: &[u8], said: &[u8], card: &[u8], bytes: &[u8]) -> u8 {
     told(status, sheet, said)
 }
 
-// An empty name is no card.
-fn fit_sheet(sheet: &[u8], card: &[u8]) -> u8 {
+// Where no card is asked for, its name counts for nothing.
+fn fit_sheet(sheet: &[u8], asked: bool, card: &[u8]) -> u8 {
     let mut bytes = io::large_buffer();
     let got = crate::files::load(sheet, &mut bytes);
     if got < 0 {
@@ -32,7 +32,7 @@ fn fit_sheet(sheet: &[u8], card: &[u8]) -> u8 {
     let mut made = io::buffer();
     let answered = reply::answer(&bytes[..n], &mut said, &mut made);
     let listing = crate::tell::front(&said, answered.length);
-    if answered.status == Answered::DONE && 0 < card.len() {
+    if answered.status == Answered::DONE && asked {
         let size = answered.card as usize;
         return saved(sheet, listing, card, crate::tell::front(&made, size));
     }
@@ -44,9 +44,9 @@ pub(crate) fn fit(count: usize) -> u8 {
     let mut sheet = io::buffer();
     let n = os::arg(2, &mut sheet);
     if count < 4 {
-        return fit_sheet(&sheet[..n], b"");
+        return fit_sheet(&sheet[..n], false, b"");
     }
     let mut card = io::buffer();
     let k = os::arg(3, &mut card);
-    fit_sheet(&sheet[..n], &card[..k])
+    fit_sheet(&sheet[..n], true, &card[..k])
 }
