@@ -1,7 +1,20 @@
 # Draws a card as SVG. Reads what `workbench points` prints: a line for each knot (minute ordinate slope curvature), a line 'ok N', then a line for each minute (minute value slope
 # curvature). CARD names it. In a gap where the curve leaves the band between the ordinates of the gap's two knots, the band is shown and the curve is red outside of it.
 
+# A picture is XML in UTF-8: what is neither a letter of it nor printable is shown as '?'. Bytes are told apart in the C locale alone, in which this is run.
+function printable(s,    shown) {
+    while (s != "") {
+        if (!match(s, /^([ -~]|[\302-\337][\200-\277]|\340[\240-\277][\200-\277]|[\341-\354\356][\200-\277][\200-\277]|\355[\200-\237][\200-\277]|\357[\200-\276][\200-\277]|\360[\220-\277][\200-\277][\200-\277]|[\361-\363][\200-\277][\200-\277][\200-\277]|\364[\200-\217][\200-\277][\200-\277])/)) {
+            shown = shown "?"
+            RLENGTH = 1
+        } else shown = shown substr(s, 1, RLENGTH)
+        s = substr(s, RLENGTH + 1)
+    }
+    return shown
+}
+
 function escaped(s) {
+    s = printable(s)
     gsub(/&/, "\\&amp;", s)
     gsub(/</, "\\&lt;", s)
     gsub(/>/, "\\&gt;", s)
@@ -60,7 +73,7 @@ END {
     text(left, 24, "start", escaped(ENVIRON["CARD"]) ": " knots " knots, minute " first " to " last)
 
     print "<g stroke=\"#ddd\">"
-    for (v = lowest; v <= highest; v += tick) printf "<line x1=\"%.1f\" y1=\"%.1f\" x2=\"%.1f\" y2=\"%.1f\"%s/>\n", left, down(v), left + wide, down(v), v == 0 || v == 10000 ? " stroke=\"#888\"" : ""
+    for (v = lowest; v <= highest; v += tick) printf "<line x1=\"%.1f\" y1=\"%.1f\" x2=\"%.1f\" y2=\"%.1f\"%s/>\n", left, down(v), left + wide, down(v), (v == 0 || v == 10000 ? " stroke=\"#888\"" : "")
     each = step_of(last - first, 16, 1)
     start = each * int((first + each - 1) / each)
     for (m = start; m <= last; m += each) printf "<line x1=\"%.1f\" y1=\"%.1f\" x2=\"%.1f\" y2=\"%.1f\"/>\n", across(m), top, across(m), top + high
@@ -85,10 +98,11 @@ END {
     }
 
     printf "<polyline class=\"curve\" fill=\"none\" stroke=\"#036\" stroke-width=\"1.5\" points=\""
-    for (i = 1; i <= points; i++) printf "%s%.1f,%.1f", i == 1 ? "" : " ", across(minute[i]), down(value[i])
+    for (i = 1; i <= points; i++) printf "%s%.1f,%.1f", (i == 1 ? "" : " "), across(minute[i]), down(value[i])
     print "\"/>"
     for (i = 1; i <= points; i++) if (outside[i]) {
-        printf "<polyline class=\"outside\" fill=\"none\" stroke=\"#c00\" stroke-width=\"2\" points=\"%.1f,%.1f", across(minute[i > 1 ? i - 1 : i]), down(value[i > 1 ? i - 1 : i])
+        before = i > 1 ? i - 1 : i
+        printf "<polyline class=\"outside\" fill=\"none\" stroke=\"#c00\" stroke-width=\"2\" points=\"%.1f,%.1f", across(minute[before]), down(value[before])
         while (i <= points && outside[i]) { printf " %.1f,%.1f", across(minute[i]), down(value[i]); i++ }
         if (i <= points) printf " %.1f,%.1f", across(minute[i]), down(value[i])
         print "\"/>"
