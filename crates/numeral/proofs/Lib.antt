@@ -1,3 +1,4 @@
 pub mod Values
 pub mod Numbers
 pub mod Spelled
+pub mod OneSpelling

@@ -38,7 +38,7 @@ digits-from w e i l =
 
 -- ---- the loop
 
-grows : (a : ℕ) (ds : List ℕ) → a ≤ value-from a ds
+pub grows : (a : ℕ) (ds : List ℕ) → a ≤ value-from a ds
 unfolding value-from
 grows a [] = omega arith
 grows a (d ∷ ds) = omega (arith, grows (10 * a + (d - 48)) ds)

@@ -1,6 +1,6 @@
 -- For every public function, crate by crate: two outcomes that both meet its promise are the same, in the result and in each list that the function is lent to
 -- change. One law where the promise is an equation, and one where it is an equation of what an answer means. Assumes nothing.
-use mathlib.Core.Path.{_≡_, ap}
+use mathlib.Core.Path.{_≡_, ap, ap₂}
 use mathlib.Core.List.{List, []}
 use Prim.Native.Nat.{ℕ}
 use lib.IntN.{ℤ}
@@ -106,6 +106,7 @@ use Rattle.decimal.proofs.put_decimal.Reads as put-decimal
 use Rattle.decimal.proofs.put_signed.Reads as put-signed
 use Rattle.decimal.proofs.put_field.Reads as put-field
 use Rattle.decimal.proofs.put_worded.Reads as put-worded
+use Rattle.listing.proofs.knot_line.Reads as knot-line
 use Rattle.listing.proofs.refused_line.Reads as refused-line
 use Rattle.listing.proofs.list.Reads as list
 use Rattle.sheet.proofs.asked.Reads as asked
@@ -115,6 +116,23 @@ use Rattle.sheet.proofs.Intake.step.Reads as intake-step
 use Rattle.sheet.proofs.Intake.close.Reads as intake-close
 use Rattle.sheet.proofs.Sheet.read.Reads as sheet-read
 use Rattle.fit_listing.proofs.list_sheet.Reads as list-sheet
+use Rattle.split.proofs.stop.Reads as split-stop
+use Rattle.split.proofs.until.Reads as split-until
+use Rattle.split.proofs.from.Reads as split-from
+use Rattle.split.proofs.past.Reads as split-past
+use Rattle.split.proofs.line_at.Reads as line-at
+use Rattle.numeral.proofs.plain.Reads as plain
+use Rattle.numeral.proofs.Number.natural.Reads as natural
+use Rattle.numeral.proofs.Ordinate.of.Reads as ordinate-of
+use Rattle.text.proofs.blamed.Reads as blamed
+use Rattle.text.proofs.Sheet.read.Reads as text-read
+use Rattle.words.proofs.put_sentence.Reads as put-sentence
+use Rattle.words.proofs.refused_line.Reads as refusal-said
+use Rattle.words.proofs.wrong_line.Reads as wrong-said
+use Rattle.reply.specs.declared.Answered.{Answered}
+use Rattle.reply.specs.Reply.{Reply, Answers}
+use Rattle.reply.proofs.answer.Reads as reply-answer
+use Rattle.card_listing.proofs.list_card.Reads as list-card
 use Rattle.kaihveto.proofs.kaihveto_mean.Reads as c-mean
 use Rattle.kaihveto.proofs.kaihveto_fit.Reads as c-fit
 use Rattle.kaihveto.proofs.kaihveto_fit_ends.Reads as c-fit-ends
@@ -215,6 +233,21 @@ module _ {K A S : Type 0} (words text : K → A → List ℕ) (text′ : S → L
 
   putting : Once Putting × Lent Putting text′
   putting = ((λ κs a x y s t p q. one-put p q .1), λ κs a x y s t p q. one-put p q .0)
+
+-- what three equal parts make is equal
+three : {A B C D : Type 0} (f : A → B → C → D) {a a′ : A} {b b′ : B} {c c′ : C} → a ≡ a′ → b ≡ b′ → c ≡ c′ → f a b c ≡ f a′ b′ c′
+three f p q r = ap₂ (λ g c. g c) (ap₂ f p q) r
+
+module _ {K A S : Type 0} (reply : K → A → Reply) (to : K → A → List ℕ) (to′ card′ : S → List ℕ) where
+  abbrev Answering : K → A → Answered → S → Type 0
+  Answering κs a x s = Answers (reply κs a) (to κs a) (to′ s) (card′ s) x
+
+  answering : Once Answering × Lent Answering to′ × Lent Answering card′
+  answering = (
+    (λ κs a x y s t p q. three (λ n l c. record { status = n; length = l; card = c }) (one-outcome (p .status) (q .status)) (one-put (p .said) (q .said) .1) (one-outcome (p .size) (q .size))),
+    (λ κs a x y s t p q. one-put (p .said) (q .said) .0),
+    λ κs a x y s t p q. one-outcome (p .card) (q .card),
+  )
 
 -- ---- answers, rounding, the mean
 
@@ -347,6 +380,9 @@ worded-put = putting _ _ _ _
 pub refusal-listed : Once refused-line.Post × Lent refused-line.Post (λ s. now (s .0))
 refusal-listed = putting _ _ _ _
 
+pub knot-listed : Once knot-line.Post × Lent knot-line.Post (λ s. now (s .0))
+knot-listed = putting _ _ _ _
+
 -- here the second
 pub sheet-listed : Once list-sheet.Post × Lent list-sheet.Post (λ s. now (s .1 .0))
 sheet-listed = putting _ _ _ _
@@ -354,6 +390,39 @@ sheet-listed = putting _ _ _ _
 -- and here the seventh
 pub listed : Once list.Post × Lent list.Post (λ s. now (s .1 .1 .1 .1 .1 .1 .0))
 listed = putting _ _ _ _
+
+-- ---- what the command reads and says
+
+-- a part of a text is told by its bytes
+pub split : Once split-stop.Post × Leaves split-until.Post (λ x s. now x) × Leaves split-from.Post (λ x s. now x) × Leaves split-past.Post (λ x s. now x) × Leaves line-at.Post (λ x s. now x)
+split = (equation _ _, equation _ _, equation _ _, equation _ _, equation _ _)
+
+pub numeral : Once plain.Post × Once natural.Post × Once ordinate-of.Post
+numeral = (equation _ _, equation _ _, equation _ _)
+
+pub text : Leaves blamed.Post (λ x s. now x) × Once text-read.Post
+text = (equation _ _, equation _ _)
+
+-- the buffer is the first parameter
+pub sentence-put : Once put-sentence.Post × Lent put-sentence.Post (λ s. now (s .0))
+sentence-put = putting _ _ _ _
+
+pub refusal-told : Once refusal-said.Post × Lent refusal-said.Post (λ s. now (s .0))
+refusal-told = putting _ _ _ _
+
+pub wrong-told : Once wrong-said.Post × Lent wrong-said.Post (λ s. now (s .0))
+wrong-told = putting _ _ _ _
+
+-- the buffers for what is said and for the card are the second and the third
+pub reply : Once reply-answer.Post × Lent reply-answer.Post (λ s. now (s .1 .0)) × Lent reply-answer.Post (λ s. now (s .1 .1 .0))
+reply = answering _ _ _ _
+
+-- the text is the second
+pub card-listed : Once list-card.Post × Lent list-card.Post (λ s. now (s .1 .0))
+card-listed = (
+  (λ κs a x y s t p q. three (λ n k l. record { number = n; place = k; length = l }) (one-outcome (p .1 .0) (q .1 .0)) (one-outcome (p .1 .1) (q .1 .1)) (one-put (p .0) (q .0) .1)),
+  λ κs a x y s t p q. one-put (p .0) (q .0) .0,
+)
 
 -- ---- the boundary: the parameters stand as in the functions behind it
 

@@ -1,10 +1,11 @@
--- A knot as the listing writes its first two numbers, minute and ordinate, is read as that knot.
+-- A knot as the listing writes its first two numbers, minute and ordinate, is read as that knot; and a line that is a knot has these two words and no other.
 -- Assumes nothing.
 use Prim.Native.Nat.{ℕ, suc, _+_, _≤_, _<_}
 use mathlib.Core.Path.{_≡_, refl, ap, _∙_}
 use mathlib.Core.Bool.{false}
 use mathlib.Core.List.{List, [], _∷_, _++_}
 use native.Mathlib.Omega.{arith}
+use lib.Dec.{lit<}
 use lib.IntN.{ℤ, pos, negsuc}
 use lib.ListN.{length, length-append}
 use lib.Seq.{take-all}
@@ -17,8 +18,14 @@ use Rattle.split.specs.declared.Mark.{Mark}
 use Rattle.split.specs.declared.Mark.the-variants.{Note, Blank}
 use Rattle.split.proofs.Unmarked.{stop-behind, cut, uncut}
 use Rattle.split.proofs.Words.{kept}
+use Rattle.numeral.specs.Number.{natural, ordinate}
+use Rattle.numeral.specs.declared.Number.{Number}
+use Rattle.numeral.specs.declared.Number.the-variants.{Whole, Bad}
+use Rattle.numeral.specs.declared.Ordinate.{Ordinate}
+use Rattle.numeral.specs.declared.Ordinate.the-variants.{Given, Wrong}
+use Rattle.numeral.proofs.OneSpelling.{one-spelling, one-ordinate}
 use Rattle.numeral.proofs.Spelled.{No-digits, digits-unmarked, some-digit, decimal-read, signed-read}
-use Rattle.text.specs.Sheet.{knot-by, line-by, line}
+use Rattle.text.specs.Sheet.{knot-by, knot, line-by, line}
 use Rattle.text.specs.declared.Line.the-variants.{Knot}
 
 no-note : No-digits Note
@@ -60,3 +67,27 @@ its-words x y =
 pub line-read : (x : ℕ) (y : ℤ) → x ≤ 65535 → SFits w16 y → line (written x y) ≡ Knot x y
 unfolding knot-by line-by line
 line-read x y l f = rw (no-comment x y, its-words x y, decimal-read x (omega arith) 65535 l, signed-read y f)
+
+-- ---- the other way
+
+spelled-knot : (x y : List ℕ) {n : ℕ} {z : ℤ} → knot x y ≡ Knot n z → (x ≡ decimal n) × (y ≡ signed z)
+unfolding knot-by
+spelled-knot x y {n} {z} e = go (natural 65535 x) refl (ordinate y) refl e
+  where
+    go : (a : Number) → natural 65535 x ≡ a → (b : Ordinate) → ordinate y ≡ b → knot-by a b ≡ Knot n z → (x ≡ decimal n) × (y ≡ signed z)
+    go (Bad wrong) d b o e = let z : _≡_ {A = ℕ} 0 1 = cc in absurd (omega arith)
+    go (Whole m) d (Wrong wrong) o e = let z : _≡_ {A = ℕ} 0 1 = cc in absurd (omega arith)
+    go (Whole m) d (Given v) o e =
+        let i : m ≡ n = cc in
+        let j : v ≡ z = cc in
+        (rw i at (one-spelling 65535 x (lit< tt) d), rw j at (one-ordinate y o))
+
+pub knot-is-two-words : (l : List ℕ) {n : ℕ} {z : ℤ} → line l ≡ Knot n z → words (bare l) ≡ decimal n ∷ signed z ∷ []
+unfolding line line-by
+knot-is-two-words l {n} {z} e = go (words (bare l)) e
+  where
+    go : (ws : List (List ℕ)) → line-by ws ≡ Knot n z → ws ≡ decimal n ∷ signed z ∷ []
+    go [] e = let z : _≡_ {A = ℕ} 0 1 = cc in absurd (omega arith)
+    go (x ∷ []) e = let z : _≡_ {A = ℕ} 0 1 = cc in absurd (omega arith)
+    go (x ∷ y ∷ []) e = let s = spelled-knot x y e in rw (s .0, s .1)
+    go (x ∷ y ∷ v ∷ ws) e = let z : _≡_ {A = ℕ} 0 1 = cc in absurd (omega arith)

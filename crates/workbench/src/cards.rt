@@ -4,14 +4,13 @@ use answer::Judged;
 use decode::Card;
 use opened::Opened;
 
-// With the number of the first argument behind the card, or how many minutes a line is printed for.
+// What is asked; `At` of how many arguments there are, `Table` every how many minutes.
 enum Job {
     List,
     Check,
     At(usize),
     Table(u16),
     Points,
-    None,
 }
 
 fn list(name: &[u8], bytes: &[u8]) -> u8 {
@@ -41,10 +40,7 @@ fn read_off(name: &[u8], bytes: &[u8], minute: u16) -> u8 {
     if reading.number == 0 {
         return print_reading(minute, reading);
     }
-    if reading.number == 11 {
-        return crate::tell::refused_at(name, minute, reading.number, reading.place);
-    }
-    crate::tell::refused(name, reading.number, reading.place)
+    crate::tell::refused_at(name, minute, reading.number, reading.place)
 }
 
 fn at_argument(name: &[u8], bytes: &[u8], i: usize) -> u8 {
@@ -54,7 +50,7 @@ fn at_argument(name: &[u8], bytes: &[u8], i: usize) -> u8 {
     }
 }
 
-// Each minute is answered, also behind one that is refused.
+// A card that is refused is told once; each minute is answered, also behind one that is refused.
 fn at(name: &[u8], bytes: &[u8], count: usize) -> u8 {
     let checked = card::check(bytes);
     if checked.number != 0 {

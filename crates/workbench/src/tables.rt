@@ -1,4 +1,5 @@
 // The readings of a card at all of its minutes, and their lines.
+use knots::Kind;
 ghost use Prim.Native.Nat.{_<_, _≤_};
 
 // No line is longer.
@@ -14,8 +15,8 @@ pub(crate) struct Readings {
 }
 
 impl Readings {
-    // 63 gaps of 60 minutes, and the first minute.
-    pub(crate) const MOST: usize = 3781;
+    // The most and widest gaps that a card has, and the first minute.
+    pub(crate) const MOST: usize = (Kind::MOST - 1) * (Kind::GAP as usize) + 1;
 
     // What a buffer of 65,536 bytes may hold before another line goes into it.
     const NEARLY_FULL: usize = 65_488;
@@ -67,7 +68,7 @@ pub(crate) fn put_reading(
 }
 
 fn at_most(count: usize) -> usize
-    ensures { λ r. ⌜ r ≤ 3781 ⌝ }
+    ensures { λ r. ⌜ r ≤ 65536 ⌝ }
 {
     if count < Readings::MOST {
         return count;

@@ -1,5 +1,5 @@
 -- `cases::print::named` is safe: a number of 32 bits goes into 64. Assumes nothing.
-use mir.Syntax.{w32}
+use mir.Syntax.{w32, w64}
 use Rattle.decimal.proofs.Widths.{wide}
 use borrow.Author.Needs.{needs}
 use Rattle.cases.proofs.print.named.Statement.{statement}

@@ -1,0 +1,1 @@
+// Laws only (specs/ and proofs/): the card that a sheet's text is answered with.
