@@ -7,7 +7,7 @@ use native.Mathlib.Omega.{arith}
 use lib.ListN.{length, getD}
 use Rattle.split.specs.Parts.{until, past, lines, words, bare}
 use Rattle.numeral.specs.Number.{natural}
-use Rattle.text.specs.Sheet.{blamed-of, blamed-by, blamed}
+use Rattle.text.specs.Sheet.{latest, blamed-of, blamed-by, blamed}
 use Rattle.split.specs.declared.Mark.the-variants.{Blank, Word}
 use Rattle.split.proofs.Words.{no-word}
 use Rattle.text.proofs.Lines.{one, two, three}
@@ -27,7 +27,7 @@ module _ (s : List ℕ) {f : List ℕ} (first : f ≡ past Word s) where
     blames-one e = rw (one s first some second, no-word (past Blank f) (rw second at e))
 
     module _ (more : length g ≡ 0 → ⊥) {h : List ℕ} (third : h ≡ past Word (past Blank g)) where
-      pub blames-two : length h ≤ 0 → blamed-of (natural 65535 (until Blank f)) (until Blank f) (until Blank g) ≡ blamed-by (words s)
+      pub blames-two : length h ≤ 0 → blamed-of (natural latest (until Blank f)) (until Blank f) (until Blank g) ≡ blamed-by (words s)
       unfolding blamed-by
       blames-two l = let e : length h ≡ 0 = omega arith in rw (two s first some second more third, no-word (past Blank g) (rw third at e))
 

@@ -25,7 +25,7 @@ use Rattle.numeral.specs.declared.Ordinate.{Ordinate}
 use Rattle.numeral.specs.declared.Ordinate.the-variants.{Given, Wrong}
 use Rattle.numeral.proofs.OneSpelling.{one-spelling, one-ordinate}
 use Rattle.numeral.proofs.Spelled.{No-digits, digits-unmarked, some-digit, decimal-read, signed-read}
-use Rattle.text.specs.Sheet.{knot-by, knot, line-by, line}
+use Rattle.text.specs.Sheet.{latest, knot-by, knot, line-by, line}
 use Rattle.text.specs.declared.Line.the-variants.{Knot}
 
 no-note : No-digits Note
@@ -64,23 +64,23 @@ its-words x y =
     ∙ ap (λ ps. decimal x ∷ ps) (kept (signed y) [] (some-byte y))
 
 -- a knot as the listing writes its first two numbers
-pub line-read : (x : ℕ) (y : ℤ) → x ≤ 65535 → SFits w16 y → line (written x y) ≡ Knot x y
+pub line-read : (x : ℕ) (y : ℤ) → x ≤ latest → SFits w16 y → line (written x y) ≡ Knot x y
 unfolding knot-by line-by line
-line-read x y l f = rw (no-comment x y, its-words x y, decimal-read x (omega arith) 65535 l, signed-read y f)
+line-read x y l f = rw (no-comment x y, its-words x y, decimal-read x (omega arith) latest l, signed-read y f)
 
 -- ---- the other way
 
 spelled-knot : (x y : List ℕ) {n : ℕ} {z : ℤ} → knot x y ≡ Knot n z → (x ≡ decimal n) × (y ≡ signed z)
 unfolding knot-by
-spelled-knot x y {n} {z} e = go (natural 65535 x) refl (ordinate y) refl e
+spelled-knot x y {n} {z} e = go (natural latest x) refl (ordinate y) refl e
   where
-    go : (a : Number) → natural 65535 x ≡ a → (b : Ordinate) → ordinate y ≡ b → knot-by a b ≡ Knot n z → (x ≡ decimal n) × (y ≡ signed z)
+    go : (a : Number) → natural latest x ≡ a → (b : Ordinate) → ordinate y ≡ b → knot-by a b ≡ Knot n z → (x ≡ decimal n) × (y ≡ signed z)
     go (Bad wrong) d b o e = let z : _≡_ {A = ℕ} 0 1 = cc in absurd (omega arith)
     go (Whole m) d (Wrong wrong) o e = let z : _≡_ {A = ℕ} 0 1 = cc in absurd (omega arith)
     go (Whole m) d (Given v) o e =
         let i : m ≡ n = cc in
         let j : v ≡ z = cc in
-        (rw i at (one-spelling 65535 x (lit< tt) d), rw j at (one-ordinate y o))
+        (rw i at (one-spelling latest x (lit< tt) d), rw j at (one-ordinate y o))
 
 pub knot-is-two-words : (l : List ℕ) {n : ℕ} {z : ℤ} → line l ≡ Knot n z → words (bare l) ≡ decimal n ∷ signed z ∷ []
 unfolding line line-by

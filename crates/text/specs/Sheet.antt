@@ -25,6 +25,10 @@ too-many = 5
 abbrev pub too-long : ℕ
 too-long = 6
 
+-- the largest minute that can be written down
+abbrev pub latest : ℕ
+latest = 65535
+
 -- the minute is looked at first
 unfoldable pub knot-by : Number → Ordinate → Line
 knot-by (Bad wrong) y = Refused wrong
@@ -32,7 +36,7 @@ knot-by (Whole x) (Wrong wrong) = Refused wrong
 knot-by (Whole x) (Given y) = Knot x y
 
 abbrev pub knot : List ℕ → List ℕ → Line
-knot x y = knot-by (natural 65535 x) (ordinate y)
+knot x y = knot-by (natural latest x) (ordinate y)
 
 unfoldable pub line-by : List (List ℕ) → Line
 line-by [] = Empty
@@ -51,7 +55,7 @@ blamed-of (Whole n) x y = y
 unfoldable pub blamed-by : List (List ℕ) → List ℕ
 blamed-by [] = []
 blamed-by (x ∷ []) = x
-blamed-by (x ∷ y ∷ []) = blamed-of (natural 65535 x) x y
+blamed-by (x ∷ y ∷ []) = blamed-of (natural latest x) x y
 blamed-by (x ∷ y ∷ z ∷ ws) = z
 
 -- of line n, from 1

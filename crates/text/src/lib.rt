@@ -15,6 +15,9 @@ pub enum Line {
 }
 
 impl Line {
+    // The largest minute that can be written down.
+    const LATEST: u32 = 65535;
+
     pub const TOO_FEW: u32 = 4;
 
     pub const TOO_MANY: u32 = 5;
@@ -22,7 +25,7 @@ impl Line {
     fn knot(minute: &[u8], ordinate: &[u8]) -> Line
         ensures { λ r. ⌜ r ≡ knot (now (minute .entry)) (now (ordinate .entry)) ⌝ }
     {
-        match Number::natural(minute, 65535) {
+        match Number::natural(minute, Line::LATEST) {
             Number::Bad(wrong) => Line::Refused(wrong),
             Number::Whole(x) => match Ordinate::of(ordinate) {
                 Ordinate::Wrong(wrong) => Line::Refused(wrong),
@@ -75,7 +78,7 @@ fn blamed_word(text: &[u8]) -> &[u8]
         return split::until(Mark::Blank, third);
     }
     let minute = split::until(Mark::Blank, first);
-    match Number::natural(minute, 65535) {
+    match Number::natural(minute, Line::LATEST) {
         Number::Bad(_) => minute,
         Number::Whole(_) => split::until(Mark::Blank, second),
     }

@@ -1,4 +1,4 @@
--- `text::all_digits` meets its contract. Assumes nothing.
+-- `numeral::all_digits` meets its contract. Assumes nothing.
 use borrow.Author.Needs.{needs}
 use borrow.Author.Tests.{lt-ltb, le-ltb}
 use Rattle.numeral.proofs.all_digits.Statement.{statement}

@@ -1,4 +1,4 @@
--- `text::padded` meets its contract. Assumes nothing.
+-- `numeral::padded` meets its contract. Assumes nothing.
 use borrow.Author.Needs.{needs}
 use borrow.Author.Tests.{lt-ltb, le-ltb}
 use Rattle.numeral.proofs.padded.Statement.{statement}

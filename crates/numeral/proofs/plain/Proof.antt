@@ -1,4 +1,4 @@
--- `text::plain` meets its contract. Assumes nothing.
+-- `numeral::plain` meets its contract. Assumes nothing.
 use borrow.Author.Needs.{needs}
 use borrow.Author.Tests.{lt-ltb, le-ltb}
 use Rattle.numeral.specs.Number.{plain}

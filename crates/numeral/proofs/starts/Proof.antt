@@ -1,4 +1,4 @@
--- `text::starts` meets its contract. Assumes nothing.
+-- `numeral::starts` meets its contract. Assumes nothing.
 use mathlib.Core.Path.{_∙_}
 use borrow.Author.Needs.{needs}
 use borrow.Author.Tests.{le-ltb}

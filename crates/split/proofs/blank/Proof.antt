@@ -1,4 +1,4 @@
--- `text::blank` meets its contract, byte by byte. Assumes nothing.
+-- `split::blank` meets its contract, byte by byte. Assumes nothing.
 use borrow.Author.Tests.{eq-eqb, ne-eqb}
 use Rattle.split.specs.Parts.{marks}
 use Rattle.split.proofs.blank.Statement.{statement}

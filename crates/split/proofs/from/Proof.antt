@@ -1,4 +1,4 @@
--- `text::from` meets its contract. Assumes nothing.
+-- `split::from` meets its contract. Assumes nothing.
 use native.Mathlib.Omega.{arith}
 use Prim.Native.Nat.{_-_}
 use lib.ListN.{length, drop, length-drop}

@@ -1,4 +1,4 @@
--- `text::line_at` meets its contract: a loop over the lines before. Assumes nothing.
+-- `split::line_at` meets its contract: a loop over the lines before. Assumes nothing.
 use Prim.Native.Nat.{_+_, _-_, _≤_, _<_}
 use mathlib.Core.Path.{_≡_, ap, _∙_}
 use native.Mathlib.Omega.{arith}

@@ -1,4 +1,4 @@
--- `text::marks` meets its contract, mark by mark. Assumes nothing.
+-- `split::marks` meets its contract, mark by mark. Assumes nothing.
 use mathlib.Core.Path.{ap}
 use mathlib.Core.Bool.{not}
 use borrow.Author.Needs.{needs}

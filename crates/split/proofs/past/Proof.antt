@@ -1,4 +1,4 @@
--- `text::past` meets its contract. Assumes nothing.
+-- `split::past` meets its contract. Assumes nothing.
 use mathlib.Core.Path.{ap, _∙_}
 use lib.ListN.{drop}
 use denote.Ref.{now}

@@ -1,4 +1,4 @@
--- `text::stop` meets its contract: a loop over the bytes. Assumes nothing.
+-- `split::stop` meets its contract: a loop over the bytes. Assumes nothing.
 use Prim.Native.Nat.{_-_}
 use mathlib.Core.Path.{sym, _∙_}
 use native.Mathlib.Omega.{arith}

@@ -1,4 +1,4 @@
--- `text::until` meets its contract. Assumes nothing.
+-- `split::until` meets its contract. Assumes nothing.
 use mathlib.Core.Path.{sym, ap}
 use lib.ListN.{take}
 use lib.Seq.{length-take-le}

@@ -4,7 +4,7 @@ use denote.Ref.{now}
 use borrow.Author.Needs.{needs}
 use Rattle.split.specs.Parts.{until, past, words}
 use Rattle.numeral.specs.Number.{natural}
-use Rattle.text.specs.Sheet.{blamed-of, blamed-by}
+use Rattle.text.specs.Sheet.{latest, blamed-of, blamed-by}
 use Rattle.split.specs.declared.Mark.the-variants.{Blank, Word}
 use Rattle.text.proofs.Blames.{blames-none, blames-one, blames-two, blames-three}
 use Rattle.text.proofs.blamed_word.Statement.{statement}
@@ -37,7 +37,7 @@ by-number c =
     let r = e .before .before .before in
     let q = r .before .before .before in
     let f = until Blank (now (c .before .before .before .before .before .before .before .before .before .past .result)) in
-    ap (λ n. blamed-of n f (until Blank (now (c .before .before .before .before .before .before .past3 .result)))) (c .natural .ensures ∙ ap (natural 65535) (c .before .until3 .ensures))
+    ap (λ n. blamed-of n f (until Blank (now (c .before .before .before .before .before .before .past3 .result)))) (c .natural .ensures ∙ ap (natural latest) (c .before .until3 .ensures))
     ∙ blames-two _ (q .before .past .ensures) (q .if1 .left) (second (r .before)) (r .if2 .left) (third (e .before)) (e .if3 .left)
 
 returns-4 : tie.Need-returns-4

@@ -1,4 +1,4 @@
--- `text::Number::natural` meets its contract, test by test. Assumes nothing.
+-- `numeral::Number::natural` meets its contract, test by test. Assumes nothing.
 use mathlib.Core.Path.{_≡_, sym, _∙_}
 use mathlib.Core.Bool.{true}
 use denote.Ref.{now}

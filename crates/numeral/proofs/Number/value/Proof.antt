@@ -1,4 +1,4 @@
--- `text::Number::value` meets its contract: a loop over the digits. Assumes nothing.
+-- `numeral::Number::value` meets its contract: a loop over the digits. Assumes nothing.
 use Prim.Native.Nat.{_-_, _≤_}
 use mathlib.Core.Path.{refl}
 use native.Mathlib.Omega.{arith}

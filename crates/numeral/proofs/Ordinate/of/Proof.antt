@@ -1,4 +1,4 @@
--- `text::Ordinate::of` meets its contract, by the sign. Assumes nothing.
+-- `numeral::Ordinate::of` meets its contract, by the sign. Assumes nothing.
 use mathlib.Core.Path.{sym, ap, _∙_}
 use borrow.Author.Needs.{needs}
 use Rattle.numeral.specs.Number.{natural, below, ordinate}

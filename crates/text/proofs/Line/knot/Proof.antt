@@ -6,13 +6,13 @@ use mir.Syntax.{w16}
 use borrow.Author.Needs.{needs}
 use Rattle.bytes.proofs.Signs.{passed}
 use Rattle.numeral.specs.Number.{natural}
-use Rattle.text.specs.Sheet.{knot-by}
+use Rattle.text.specs.Sheet.{latest, knot-by}
 use Rattle.numeral.specs.declared.Number.the-variants.{Whole}
 use Rattle.numeral.proofs.Numbers.{natural-upto}
 use Rattle.text.proofs.Line.knot.Statement.{statement}
 use Rattle.text.proofs.Line.knot.Tie as tie
 
-minute : (c : tie.After-x) → natural 65535 (now (c .before .before .before .before .before .args .minute)) ≡ Whole (c .x .given .0 .0)
+minute : (c : tie.After-x) → natural latest (now (c .before .before .before .before .before .args .minute)) ≡ Whole (c .x .given .0 .0)
 minute c = sym (c .before .before .natural .ensures) ∙ c .x .given .1
 
 cast-t11 : tie.Need-cast-t11
