@@ -264,9 +264,9 @@ pub fn fill(list: &mut [Change], n: usize, plan: Plan)
     requires { ⌜ (n ≤ length (now list)) × (n ≤ most) ⌝ }
     ensures { λ _. ⌜ now (list .exit) ≡ over (planned plan) n (now (list .entry)) ⌝ }
 {
-    let mut i: usize = 0;
-    while i < n {
-        list[i] = plan.at(i);
-        i += 1;
+    let mut j: usize = 0;
+    while j < n {
+        list[j] = plan.at(j);
+        j += 1;
     }
 }
