@@ -133,6 +133,19 @@ use Rattle.reply.specs.declared.Answered.{Answered}
 use Rattle.reply.specs.Reply.{Reply, Answers}
 use Rattle.reply.proofs.answer.Reads as reply-answer
 use Rattle.card_listing.proofs.list_card.Reads as list-card
+use Rattle.holes.proofs.is_hole.Reads as is-hole
+use Rattle.holes.proofs.one_at.Reads as one-at
+use Rattle.holes.proofs.count.Reads as holes-count
+use Rattle.holes.proofs.bridged.Reads as bridged
+use Rattle.holes.proofs.filled.Reads as filled
+use Rattle.mend.specs.declared.Change.{Change}
+use Rattle.mend.specs.declared.Plan.{Plan}
+use Rattle.mend.specs.declared.Mended.{Mended}
+use Rattle.mend.specs.Promise.{Plans, Mends}
+use Rattle.mend.proofs.Plan.len.Reads as plan-len
+use Rattle.mend.proofs.Plan.answer.Reads as plan-answer
+use Rattle.mend.proofs.mend.Reads as mend
+use Rattle.mend.proofs.FillReads as fill
 use Rattle.kaihveto.proofs.kaihveto_mean.Reads as c-mean
 use Rattle.kaihveto.proofs.kaihveto_fit.Reads as c-fit
 use Rattle.kaihveto.proofs.kaihveto_fit_ends.Reads as c-fit-ends
@@ -142,6 +155,7 @@ use Rattle.kaihveto.proofs.kaihveto_read.Reads as c-read
 use Rattle.kaihveto.proofs.kaihveto_reading.Reads as c-reading
 use Rattle.kaihveto.proofs.kaihveto_table.Reads as c-table
 use Rattle.kaihveto.proofs.kaihveto_refit.Reads as c-refit
+use Rattle.kaihveto.proofs.MendReads as c-mend
 use Rattle.outcome.specs.Once.{Leaves, Once, Lent}
 
 -- ---- the laws: a promise is an equation of what is left to the caller, or one of what an answer means, or several equations
@@ -226,6 +240,31 @@ module _ {K A S : Type 0} (bytes : K → A → List ℕ) (ms Ms : K → A → Li
     (λ κs a x y s t p q. one-outcome (p .slopes) (q .slopes)),
     λ κs a x y s t p q. one-outcome (p .curvatures) (q .curvatures),
   )
+
+module _ {K A S : Type 0} (mend : K → A → Answer Card) (cs : K → A → List Change) (ys ms Ms : K → A → List ℤ) (ys′ ms′ Ms′ : S → List ℤ) where
+  abbrev Planning : K → A → Plan → S → Type 0
+  Planning κs a x s = Plans (mend κs a) (cs κs a) (ys κs a) (ms κs a) (Ms κs a) (ys′ s) (ms′ s) (Ms′ s) x
+
+  planning : Once Planning × Lent Planning ys′ × Lent Planning ms′ × Lent Planning Ms′
+  planning = (
+    (λ κs a x y s t p q. one-outcome (p .plan) (q .plan)),
+    (λ κs a x y s t p q. one-outcome (p .ordinates) (q .ordinates)),
+    (λ κs a x y s t p q. one-outcome (p .slopes) (q .slopes)),
+    λ κs a x y s t p q. one-outcome (p .curvatures) (q .curvatures),
+  )
+
+  module _ (list : K → A → List Change) (list′ : S → List Change) where
+    abbrev Mending : K → A → Mended → S → Type 0
+    Mending κs a x s = Mends (mend κs a) (cs κs a) (ys κs a) (ms κs a) (Ms κs a) (list κs a) (ys′ s) (ms′ s) (Ms′ s) (list′ s) x
+
+    mending : Once Mending × Lent Mending ys′ × Lent Mending ms′ × Lent Mending Ms′ × Lent Mending list′
+    mending = (
+      (λ κs a x y s t p q. one-outcome (p .answer) (q .answer)),
+      (λ κs a x y s t p q. one-outcome (p .ordinates) (q .ordinates)),
+      (λ κs a x y s t p q. one-outcome (p .slopes) (q .slopes)),
+      (λ κs a x y s t p q. one-outcome (p .curvatures) (q .curvatures)),
+      λ κs a x y s t p q. one-outcome (p .changes) (q .changes),
+    )
 
 module _ {K A S : Type 0} (words text : K → A → List ℕ) (text′ : S → List ℕ) (at : K → A → ℕ) where
   abbrev Putting : K → A → ℕ → S → Type 0
@@ -350,6 +389,22 @@ fit-free = fitting _ _ _ _ _
 pub fit-anew : Once refit.Post × Lent refit.Post (λ s. now (s .1 .0)) × Lent refit.Post (λ s. now (s .1 .1 .0))
 fit-anew = refitting _ _ _ _ _
 
+-- ---- holes
+
+pub holes : Once is-hole.Post × Once one-at.Post × Once holes-count.Post × Once bridged.Post × Once filled.Post
+holes = (equation _ _, equation _ _, equation _ _, judgement _, equation _ _)
+
+pub plans : Once plan-len.Post × Once plan-answer.Post
+plans = (equation _ _, equation _ _)
+
+-- ordinates, slopes and curvatures follow the minutes
+pub mended : Once mend.Post × Lent mend.Post (λ s. now (s .1 .0)) × Lent mend.Post (λ s. now (s .1 .1 .0)) × Lent mend.Post (λ s. now (s .1 .1 .1 .0))
+mended = planning _ _ _ _ _ _ _ _
+
+-- the list is the first parameter
+pub list-filled : Lent fill.Post (λ s. now (s .0))
+list-filled = equation _ _
+
 -- ---- what the programs read and print
 
 pub sheet : Once asked.Post × Once intake-new.Post × Once intake-done.Post × Once intake-step.Post × Once intake-close.Post × Once sheet-read.Post
@@ -446,3 +501,9 @@ boundary-tabled = tabling _ _ _ _
 
 pub boundary-refit : Once c-refit.Post × Lent c-refit.Post (λ s. now (s .1 .0)) × Lent c-refit.Post (λ s. now (s .1 .1 .0))
 boundary-refit = refitting _ _ _ _ _
+
+-- the list of changes is the last
+pub boundary-mended :
+    Once c-mend.Post × Lent c-mend.Post (λ s. now (s .1 .0)) × Lent c-mend.Post (λ s. now (s .1 .1 .0)) × Lent c-mend.Post (λ s. now (s .1 .1 .1 .0))
+    × Lent c-mend.Post (λ s. now (s .1 .1 .1 .1 .0))
+boundary-mended = mending _ _ _ _ _ _ _ _ _ _
