@@ -55,7 +55,7 @@ use Rattle.demands.proofs.Numbered.{says, accepts, mean-numbered, write
 -- ---- lent lists
 
 -- vs over the front of a list keeps its length and what stands behind
-over-front : {A : Type 0} (vs entry : List A) {exit : List A} {k : ℕ} → exit ≡ vs ++ drop (length vs) entry → length vs ≡ k → k ≤ length entry
+pub over-front : {A : Type 0} (vs entry : List A) {exit : List A} {k : ℕ} → exit ≡ vs ++ drop (length vs) entry → length vs ≡ k → k ≤ length entry
     → (length exit ≡ length entry) × (drop k exit ≡ drop k entry)
 over-front vs entry {k = k} is e room = (
   ap length is ∙ simp (length-append, length-drop) (omega arith),
@@ -100,28 +100,28 @@ mean-answers minute log e =
 behind : (l : List ℤ) {n : ℕ} → length l ≡ n → drop n l ≡ []
 behind l e = rw (← e) (drop-length l)
 
+-- every place of a list is written where the answer gives a card, or none
+pub spares-all : {v : Answer Card} {n p k : ℕ} {entry exit : List ℤ} → Says v n p → (after : Answer Card → List ℤ → List ℤ) → exit ≡ after v entry → ((n p : ℕ) → after (refused n p) entry ≡ entry)
+    → ((c : Card) → v ≡ given c → (length (after (given c) entry) ≡ k) × (length entry ≡ k)) → Spares n k entry exit
+spares-all {v} {n} {p} {k} {entry} {exit} s after e none all = record { refused = λ h. e ∙ go v refl h; given = λ z. written (s .accepts z) }
+  where
+    go : (w : Answer Card) → v ≡ w → n ≢ 0 → after w entry ≡ entry
+    go (refused m q) is h = none m q
+    go (given c) is h = absurd (h (s .accepted (record { what = c; is = is })))
+
+    written : Is-given v → (length exit ≡ length entry) × (drop k exit ≡ drop k entry)
+    written g =
+        let l = all (g .what) (g .is) in
+        let long : length exit ≡ k = ap length (e ∙ ap (λ v. after v entry) (g .is)) ∙ l .0 in
+        (long ∙ sym (l .1), behind exit long ∙ sym (behind entry (l .1)))
+
 module _ (f : Fitting) (named : Never 0 (f .named)) (fits : Fits (the-fit f) (f .slopes) (f .curvatures) (f .slopes′) (f .curvatures′) (f .answer)) where
   pub fit-says : Fit-says f
   fit-says =
       says (the-fit f) (fit-numbered (f .minutes) (f .ordinates) (f .left) (f .right) _ _ named) (ap (λ r. r .number) (fits .answer)) (ap (λ r. r .place) (fits .answer))
 
-  -- every place of the two lists is written, or none
-  spares-all : {entry exit : List ℤ} (after : Answer Card → List ℤ → List ℤ) → exit ≡ after (the-fit f) entry → ((n p : ℕ) → after (refused n p) entry ≡ entry)
-      → ((c : Card) → the-fit f ≡ given c → (length (after (given c) entry) ≡ length (f .minutes)) × (length entry ≡ length (f .minutes))) → Spares (f .answer .number) (length (f .minutes)) entry exit
-  spares-all {entry} {exit} after e none all = record { refused = λ h. e ∙ go (the-fit f) refl h; given = λ z. written (fit-says .accepts z) }
-    where
-      go : (v : Answer Card) → the-fit f ≡ v → f .answer .number ≢ 0 → after v entry ≡ entry
-      go (refused n p) is h = none n p
-      go (given c) is h = absurd (h (fit-says .accepted (record { what = c; is = is })))
-
-      written : Is-given (the-fit f) → (length exit ≡ length entry) × (drop (length (f .minutes)) exit ≡ drop (length (f .minutes)) entry)
-      written g =
-          let l = all (g .what) (g .is) in
-          let long : length exit ≡ length (f .minutes) = ap length (e ∙ ap (λ v. after v entry) (g .is)) ∙ l .0 in
-          (long ∙ sym (l .1), behind exit long ∙ sym (behind entry (l .1)))
-
   pub fit-spares : Fit-spares f
-  fit-spares = (spares-all slopes-after (fits .slopes) (λ n p. refl) all, spares-all curvatures-after (fits .curvatures) (λ n p. refl) all′)
+  fit-spares = (spares-all fit-says slopes-after (fits .slopes) (λ n p. refl) all, spares-all fit-says curvatures-after (fits .curvatures) (λ n p. refl) all′)
     where
       all : (c : Card) → the-fit f ≡ given c → (length (c .slopes) ≡ length (f .minutes)) × (length (f .slopes) ≡ length (f .minutes))
       all c is = (places-written (f .minutes) (f .ordinates) (f .left) (f .right) _ _ (f .named) is .0, places-lent (f .minutes) (f .ordinates) (f .left) (f .right) _ _ (f .named) is .0)

@@ -20,6 +20,7 @@ use Rattle.fit.proofs.Numbered.{codes-numbered}
 use Rattle.demands.proofs.Numbered.{accepts}
 use Rattle.demands.proofs.Answered.{mean-answers, fit-says, fit-spares, check-answers, read-answers, read-spares, write-answers, write-spares, reading-answers, table-answers, table-spares, refit-answers, refit-spares}
 use Rattle.demands.proofs.Given.{eliminates, stated}
+use Rattle.demands.proofs.MendedSheet.{mend-answers, mend-spares, mend-eliminates, one-mended-solution}
 use Rattle.demands.proofs.RoundTrip.{written-accepted, written-held, accepts-its-card, takes, reads-its-card, made-again}
 use Rattle.demands.proofs.Off.{stands-on-a-gap, of-card, close, at-knots, on-its-card, in-table, table-counted, written-never, checked-never, read-never, read-off-never, table-never}
 
@@ -56,6 +57,9 @@ one =
       refit = λ c. refit-answers (c .promised) .0;
       refit-zeros = λ c. refit-answers (c .promised) .1;
       refit-spares = λ c. refit-spares (c .promised);
+      mend = λ c. mend-answers c .0;
+      mend-zeros = λ c. mend-answers c .1;
+      mend-spares = mend-spares;
     }
 
 -- ---- 2
@@ -69,6 +73,7 @@ two =
     record {
       fit = λ c zero. eliminates (without-ends c) (c .promised) (fits c .accepts zero);
       fit-between = λ c zero. eliminates (between-ends c) (c .promised) (fits-between c .accepts zero);
+      mend = mend-eliminates;
       mean = λ c zero. stated (first-minute c) (log c) (c .promised) (mean-answers (first-minute c) (log c) (c .promised) .0 .accepts zero);
       written-is-checked = λ w c zero same.
           accepts-its-card (checked-bytes c) (written-held (w .promised .0) (w .promised .1) zero same) (c .promised .0) (written-accepted (w .promised .0) (w .promised .1) zero same);
@@ -116,6 +121,7 @@ three =
       reading-never-10 = λ c half e. read-off-never (reading-bytes c) half (minute c) (sym (one .reading c .number) ∙ e);
       table-never-10 = λ c half e. table-never (table-bytes c) half (lists-for c) (from c) (sym (one .table c .number) ∙ e);
       exact-solution = one-exact;
+      mended-solution = one-mended-solution;
     }
 
 pub hold : Demands

@@ -6,4 +6,5 @@ pub mod Given
 pub mod Demands
 pub mod FitToCard
 pub mod Written
+pub mod MendedSheet
 pub mod Examples

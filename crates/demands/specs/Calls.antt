@@ -16,6 +16,9 @@ use Rattle.rows.specs.declared.End.the-variants.{Free}
 use Rattle.ends.specs.Ends.{end-by}
 use Rattle.fit.specs.declared.Fitted.{Fitted}
 use Rattle.fit.specs.Fit.{fit-of}
+use Rattle.holes.specs.Hole.{mended}
+use Rattle.mend.specs.declared.Change.{Change}
+use Rattle.mend.specs.Order as Order
 use Rattle.card.specs.Promise.{Lists, lists}
 use Rattle.table.specs.Promise.{Columns, columns}
 use Rattle.kaihveto.proofs.kaihveto_mean.Reads as mean
@@ -27,6 +30,7 @@ use Rattle.kaihveto.proofs.kaihveto_read.Reads as read
 use Rattle.kaihveto.proofs.kaihveto_reading.Reads as reading
 use Rattle.kaihveto.proofs.kaihveto_table.Reads as table
 use Rattle.kaihveto.proofs.kaihveto_refit.Reads as refit
+use Rattle.kaihveto.proofs.MendReads as mend
 
 -- a call that meets a promise: of lifetimes, arguments, the answer, and the parameters at exit
 pub record Call {K A X S : Type 0} (Post : K → A → X → S → Type 0) : Type 0 where
@@ -201,3 +205,47 @@ fresh-slopes′ c = now (c .exit .1 .0)
 
 abbrev pub fresh-curvatures′ : A-refit → List ℤ
 fresh-curvatures′ c = now (c .exit .1 .1 .0)
+
+-- ---- kaihveto_mend(minutes, ordinates, slopes, curvatures, changes)
+
+abbrev pub A-mend : Type 0
+A-mend = Call mend.Post
+
+-- the sheet and the list of changes, at entry and at exit
+abbrev pub sheet-minutes : A-mend → List ℕ
+sheet-minutes c = now (c .arguments .0)
+
+abbrev pub sheet : A-mend → List ℤ
+sheet c = now (c .arguments .1 .0)
+
+abbrev pub sheet′ : A-mend → List ℤ
+sheet′ c = now (c .exit .1 .0)
+
+abbrev pub change-list : A-mend → List Change
+change-list c = now (c .arguments .1 .1 .1 .1 .0)
+
+abbrev pub change-list′ : A-mend → List Change
+change-list′ c = now (c .exit .1 .1 .1 .1 .0)
+
+-- "Demands 2 and 3 then speak of the mended sheet": its fit, between free ends
+abbrev pub of-the-mended : A-mend → Fitting
+of-the-mended c =
+    let a = c .arguments in
+    record {
+      minutes = sheet-minutes c;
+      ordinates = mended (sheet-minutes c) (sheet c);
+      slopes = now (a .1 .1 .0);
+      curvatures = now (a .1 .1 .1 .0);
+      slopes′ = now (c .exit .1 .1 .0);
+      curvatures′ = now (c .exit .1 .1 .1 .0);
+      left = Free;
+      right = Free;
+      named = accepted;
+      answer = record { number = c .answer .number; place = c .answer .place };
+    }
+
+-- its order
+abbrev pub the-mending : A-mend → Answer Card
+the-mending c =
+    let a = c .arguments in
+    Order.mend (sheet-minutes c) (sheet c) (length (now (a .1 .1 .0))) (length (now (a .1 .1 .1 .0))) (length (change-list c))

@@ -21,6 +21,7 @@ use Rattle.curve.specs.Exact.{Exact, Near}
 use Rattle.curve.specs.Demand.{Close, On-gap, numbers, Jump-within}
 use Rattle.knots.specs.Lent.{lent}
 use Rattle.rows.specs.declared.End.{End}
+use Rattle.rows.specs.declared.End.the-variants.{Free}
 use Rattle.numbers.specs.Numbers.{slope-at, curvature-at}
 use Rattle.fit.specs.Fit.{solved}
 use Rattle.exact_fit.specs.Solution.{before-8, OneSolution}
@@ -30,7 +31,7 @@ use Rattle.card.specs.Answers.{own}
 use Rattle.card.specs.Promise.{Lists, into}
 use Rattle.table.specs.Promise.{table-verdict}
 use Rattle.refit.specs.Fresh as Fresh
-use Rattle.demands.specs.Calls.{A-mean, first-minute, log, A-fit, A-fit-between, Fitting, without-ends, between-ends, the-fit, A-write, written-card, buffer, buffer′, A-check, checked-bytes, A-read, read-bytes, places, places′, A-reading, reading-bytes, minute, three, A-table, table-bytes, from, lists-for, lists-for′, row, A-refit, refit-bytes, fresh-slopes, fresh-curvatures, fresh-slopes′, fresh-curvatures′}
+use Rattle.demands.specs.Calls.{A-mean, first-minute, log, A-fit, A-fit-between, Fitting, without-ends, between-ends, the-fit, A-write, written-card, buffer, buffer′, A-check, checked-bytes, A-read, read-bytes, places, places′, A-reading, reading-bytes, minute, three, A-table, table-bytes, from, lists-for, lists-for′, row, A-refit, refit-bytes, fresh-slopes, fresh-curvatures, fresh-slopes′, fresh-curvatures′, A-mend, sheet-minutes, sheet, sheet′, change-list, change-list′, of-the-mended, the-mending}
 
 -- ---- 1. "Every input gets an answer: bad knots, logs, cards and minutes are refused by number and place, the numbers beside a refusal are zero, and lent memory stays untouched."
 
@@ -80,6 +81,8 @@ pub record Demand-1 : Type 0 where
   pub table : (c : A-table) → Says (table-verdict (lists-for c) (table-bytes c) (from c)) (c .answer .number) (c .answer .place)
   -- 3, the card's, 26; then the fit's own
   pub refit : (c : A-refit) → Says (Fresh.refit (length (fresh-slopes c)) (length (fresh-curvatures c)) (refit-bytes c)) (c .answer .number) (c .answer .place)
+  -- 3, 1, 2; per knot 4, 5, 6; 17; 18; then the fit's own
+  pub mend : (c : A-mend) → Says (the-mending c) (c .answer .number) (c .answer .place)
   -- "the numbers beside a refusal are zero"
   pub mean-zeros : (c : A-mean) → c .answer .number ≢ 0 → (c .answer .minute ≡ 0) × (c .answer .ordinate ≡ pos 0) × (c .answer .good ≡ 0)
   pub write-zeros : (c : A-write) → c .answer .number ≢ 0 → c .answer .bytes ≡ 0
@@ -88,6 +91,7 @@ pub record Demand-1 : Type 0 where
   pub reading-zeros : (c : A-reading) → c .answer .number ≢ 0 → (c .answer .value ≡ pos 0) × (c .answer .slope ≡ pos 0) × (c .answer .curvature ≡ pos 0)
   pub table-zeros : (c : A-table) → c .answer .number ≢ 0 → c .answer .count ≡ 0
   pub refit-zeros : (c : A-refit) → c .answer .number ≢ 0 → (c .answer .knots ≡ 0) × (c .answer .changed ≡ 0)
+  pub mend-zeros : (c : A-mend) → c .answer .number ≢ 0 → c .answer .count ≡ 0
   -- "and lent memory stays untouched"; on acceptance only the n places, the card's bytes or the places of the readings are written
   pub fit-spares : (c : A-fit) → Fit-spares (without-ends c)
   pub fit-between-spares : (c : A-fit-between) → Fit-spares (between-ends c)
@@ -104,6 +108,10 @@ pub record Demand-1 : Type 0 where
   pub refit-spares : (c : A-refit) →
       Spares (c .answer .number) (c .answer .knots) (fresh-slopes c) (fresh-slopes′ c)
       × Spares (c .answer .number) (c .answer .knots) (fresh-curvatures c) (fresh-curvatures′ c)
+  pub mend-spares : (c : A-mend) →
+      Spares (c .answer .number) (length (sheet-minutes c)) (sheet c) (sheet′ c)
+      × Fit-spares (of-the-mended c)
+      × Spares (c .answer .number) (c .answer .count) (change-list c) (change-list′ c)
 
 -- ---- 2. "The fit is exactly the elimination that the paper prescribes, each operation rounded once; logs give the stated mean; writing a sound card and reading it returns it, and
 -- accepted bytes are those that the writer makes."
@@ -139,6 +147,8 @@ pub record Demand-2 : Type 0 where
   -- "The fit is exactly the elimination that the paper prescribes, each operation rounded once"
   pub fit : (c : A-fit) → c .answer .number ≡ 0 → Eliminates (without-ends c)
   pub fit-between : (c : A-fit-between) → c .answer .number ≡ 0 → Eliminates (between-ends c)
+  -- and so of a mended sheet
+  pub mend : (c : A-mend) → c .answer .number ≡ 0 → (sheet′ c ≡ of-the-mended c .ordinates) × Eliminates (of-the-mended c)
   -- "logs give the stated mean": 50 × sum ÷ count over the good bytes, rounded to nearest, ties to even, with their count, at the log's first minute
   pub mean : (c : A-mean) → c .answer .number ≡ 0 →
       (c .answer .minute ≡ first-minute c) × (c .answer .ordinate ≡ nearest (pos (50 * sum (log c))) (count (log c))) × (c .answer .good ≡ count (log c))
@@ -200,6 +210,8 @@ pub record Demand-3 : Type 0 where
   pub table-never-10 : (c : A-table) → Half-a-unit (card-of (table-bytes c)) → c .answer .number ≢ 10
   -- and there is one for every sheet that a fit takes up: the exact solution between the fit's own ends, rounded to card units
   pub exact-solution : (minutes : List ℕ) (ordinates : List ℤ) (left right : End) → before-8 minutes ordinates left right ≡ accepted → OneSolution minutes ordinates left right
+  -- the sheet that was mended has one
+  pub mended-solution : (c : A-mend) → c .answer .number ≡ 0 → OneSolution (sheet-minutes c) (sheet′ c) Free Free
 
 pub record Demands : Type 0 where
   pub one : Demand-1

@@ -35,7 +35,7 @@ few-made (given u) (given card) cs k h = h refl
 
 module _ (xs : List ℕ) (ys : List ℤ) (ms Ms room : ℕ) where
   -- 18
-  changes-in-room : (zs : List ℤ) → mend-order xs ys ms Ms room ≡ accepted → length (changes ys zs) ≤ room
+  pub changes-in-room : (zs : List ℤ) → mend-order xs ys ms Ms room ≡ accepted → length (changes ys zs) ≤ room
   unfolding mend-order mendable changes holes
   changes-in-room zs e =
       let enough = ltb-false _ _ (refuse-accepts 18 0 _ (next-accepts _ _ (next-accepts _ _ (next-accepts _ _ (next-accepts _ _ e))))) in
