@@ -28,10 +28,10 @@
    compiled code moves bytes through them. Interrupts that come in on the stack of the code that they interrupt have to leave
    the 128 bytes below its stack pointer alone, as the convention says: these functions use them.
 
-   Floating point. kaihveto_fit, kaihveto_fit_ends and kaihveto_refit compute in SSE binary64. Their answers hold in the mode in
-   which a process starts: rounding to nearest, no flush-to-zero, no denormals-are-zero, exceptions masked. A caller that has
-   changed MXCSR restores it for the call; a program that is linked with -ffast-math may start in another mode. The three may
-   set the flags of MXCSR. The other functions have no floating-point operation and answer alike in every mode.
+   Floating point. kaihveto_fit, kaihveto_fit_ends, kaihveto_refit and kaihveto_mend compute in SSE binary64. Their answers hold in
+   the mode in which a process starts: rounding to nearest, no flush-to-zero, no denormals-are-zero, exceptions masked. A caller
+   that has changed MXCSR restores it for the call; a program that is linked with -ffast-math may start in another mode. The four
+   may set the flags of MXCSR. The other functions have no floating-point operation and answer alike in every mode.
 
    Stack. Bytes that a call needs at 64 knots, measured and rounded up (docs/FIGURES.md, "Stack"); no proof bounds them. The
    first call may need more, where the loader binds memcpy and memset in it.
@@ -39,7 +39,7 @@
      kaihveto_mean      128        kaihveto_check    3,072        kaihveto_fit       8,192
      kaihveto_write     512        kaihveto_read     4,096        kaihveto_fit_ends  8,192
                                    kaihveto_reading  4,096        kaihveto_refit    10,240
-                                   kaihveto_table    4,096
+                                   kaihveto_table    4,096        kaihveto_mend     10,240
 
    Time. A reading tests the whole card every time and only then looks up the minute: some 1 to 2 microseconds at 64 knots
    (docs/FIGURES.md, "Speed"). A controller that reads once a minute needs to keep nothing but the card's bytes. A table tests
@@ -60,7 +60,7 @@ extern "C" {
    input gets another answer. MINOR rises where something is added and all else stays. The archive itself does not carry it:
    take both from one state of the sources. */
 #define KAIHVETO_VERSION_MAJOR 1
-#define KAIHVETO_VERSION_MINOR 1
+#define KAIHVETO_VERSION_MINOR 2
 
 /* The end codes. */
 #define KAIHVETO_FREE 0
@@ -78,6 +78,9 @@ extern "C" {
 #define KAIHVETO_ORDINATE_LIMIT 20000
 #define KAIHVETO_CARD_NUMBER_LIMIT 1048576
 #define KAIHVETO_GIVEN_NUMBER_LIMIT 256
+
+/* How a sheet has a hole: in place of the ordinate, and for kaihveto_mend alone. */
+#define KAIHVETO_HOLE (-32768)
 
 /* The most bytes of a log, the largest good byte, and the sensor's fault code, which is skipped. */
 #define KAIHVETO_LOG_MOST_BYTES 60
@@ -103,6 +106,8 @@ enum kaihveto_number {
     KAIHVETO_RECORD = 14,              /* record cut short, of wrong kind or length, or bytes behind the end; place: its offset */
     KAIHVETO_END_CODE = 15,            /* end code not 0, 1, 2; place: 0 left, 1 right */
     KAIHVETO_LOG_LENGTH = 16,          /* log length not 1 to 60 */
+    KAIHVETO_NO_SOUND_KNOT = 17,       /* a hole with no sound knot on one side; place: the hole */
+    KAIHVETO_TOO_FEW_CHANGES = 18,     /* fewer places in the list of changes than holes */
     KAIHVETO_NO_ROOM = 26              /* buffer under 14 + 16n bytes, or lists under n places */
 };
 
@@ -226,6 +231,32 @@ typedef struct {
 kaihveto_refit_answer kaihveto_refit(const uint8_t *card, size_t card_length,
                                      int32_t *slopes, size_t slopes_length,
                                      int32_t *curvatures, size_t curvatures_length);
+
+/* Mends a sheet with holes and fits it: each ordinate that is KAIHVETO_HOLE becomes the value, at its minute, of the straight line
+   between the nearest knots left and right that are no holes, rounded to nearest, ties to even; then slopes and curvatures are
+   fitted as by kaihveto_fit, with both ends free. Minutes, ordinates, slopes and curvatures have one length, the number of knots;
+   the list of changes has a place for each hole, and may have more. On acceptance the holes among the ordinates are filled, every
+   place of slopes and curvatures is written, and the first places of the list of changes tell each hole's place, its old number
+   and its new one, in rising order; nothing else is written. The answer has how many they are. Who writes the old numbers back to
+   their places has the sheet as it came.
+   Refusals, in this order: 3, 1, 2; 4, 5, 6 knot by knot, 6 not for a hole; 17, 18; then the fit's own, 8, 9, 10. */
+typedef struct {
+    uint32_t place;
+    int32_t old_number;
+    int32_t new_number;
+} kaihveto_change;
+
+typedef struct {
+    uint32_t number;
+    uint32_t place;
+    uint32_t count;
+} kaihveto_mend_answer;
+
+kaihveto_mend_answer kaihveto_mend(const uint16_t *minutes, size_t minutes_length,
+                                   int16_t *ordinates, size_t ordinates_length,
+                                   int32_t *slopes, size_t slopes_length,
+                                   int32_t *curvatures, size_t curvatures_length,
+                                   kaihveto_change *changes, size_t changes_length);
 
 #ifdef __cplusplus
 }

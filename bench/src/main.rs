@@ -1,6 +1,6 @@
-//! Times five functions of the library beside plain Rust that does the same with the same refusals: the fit of 64 knots, a
-//! reading off a card of 64 knots, the check of such a card, the mean of 60 bytes, the table of all minutes of such a card. The
-//! two are compared first. Rounds of the one and the other take turns; each number is the median round, in nanoseconds for one
+//! Times six functions of the library beside plain Rust that does the same with the same refusals: the fit of 64 knots, a
+//! reading off a card of 64 knots, the check of such a card, the mean of 60 bytes, the table of all minutes of such a card, the
+//! mending of a sheet of 64 knots with holes. The two are compared first. Rounds of the one and the other take turns; each number is the median round, in nanoseconds for one
 //! call, and of a table for one of its readings.
 
 mod plain;
@@ -22,6 +22,24 @@ struct Inputs {
     bytes: Vec<Vec<u8>>,
     minutes: Vec<u16>,
     logs: Vec<Vec<u8>>,
+    sheets: Vec<Sheet>,
+}
+
+/// A sheet with some fifth of its knots holes that the reference mends.
+fn sheet_with_holes(random: &mut Random) -> Sheet {
+    loop {
+        let mut sheet = curves::fitted(random, KNOTS, 0, 0).sheet;
+        for ordinate in &mut sheet.ordinates[1..KNOTS - 1] {
+            if random.once_in(5) {
+                *ordinate = reference::HOLE;
+            }
+        }
+        let (mut ordinates, mut slopes, mut curvatures) = (sheet.ordinates.clone(), [0; KNOTS], [0; KNOTS]);
+        let mut changes = [reference::Change { place: 0, old: 0, new: 0 }; KNOTS];
+        if reference::mend(&sheet.minutes, &mut ordinates, &mut slopes, &mut curvatures, &mut changes).is_ok_and(|count| count > 0) {
+            return sheet;
+        }
+    }
 }
 
 fn inputs(random: &mut Random) -> Inputs {
@@ -34,7 +52,8 @@ fn inputs(random: &mut Random) -> Inputs {
     let minutes = cards.iter().map(|card| minute(card, random)).collect();
     let byte = |random: &mut Random| if random.once_in(10) { 255 } else { random.within(0, 200) as u8 };
     let logs = (0..INPUTS).map(|_| (0..60).map(|_| byte(random)).collect()).collect();
-    Inputs { cards, bytes, minutes, logs }
+    let sheets = (0..INPUTS).map(|_| sheet_with_holes(random)).collect();
+    Inputs { cards, bytes, minutes, logs, sheets }
 }
 
 /// The library and plain Rust, fitting one sheet into lists of a pattern, must leave the same.
@@ -65,6 +84,17 @@ fn same_table(bytes: &[u8], from: u16, lengths: [usize; 3]) {
     let answer = boundary::table(bytes, from, values, slopes, curvatures);
     assert_eq!(answer, plain::table(bytes, from, other_values, other_slopes, other_curvatures), "table from {from} off {bytes:?}");
     assert_eq!(lists[0], lists[1], "table from {from} off {bytes:?}");
+}
+
+/// The library and plain Rust, mending one sheet into lists of a pattern, must leave the same.
+fn same_mend(sheet: &Sheet, room: usize) {
+    let n = sheet.minutes.len();
+    let lists = || (sheet.ordinates.clone(), vec![7; n], vec![8; n], vec![boundary::Change { place: 9, old: 10, new: 11 }; room]);
+    let (mut ours, mut other) = (lists(), lists());
+    let answer = boundary::mend(&sheet.minutes, &mut ours.0, &mut ours.1, &mut ours.2, &mut ours.3);
+    let wanted = plain::mend(&sheet.minutes, &mut other.0, &mut other.1, &mut other.2, &mut other.3);
+    assert_eq!(answer, wanted, "mending of {sheet:?} with {room} changes");
+    assert_eq!(ours, other, "mending of {sheet:?} with {room} changes");
 }
 
 /// From the first minute of a card, of which each list has a place for all.
@@ -98,6 +128,8 @@ fn compare(inputs: &Inputs, random: &mut Random) {
                 curves::spoil(random, &mut sheet);
             }
             same_fit(&sheet);
+            curves::pierce(random, &mut sheet);
+            same_mend(&sheet, random.pick(&[0, 1, n / 2, n]));
         }
     }
     for _ in 0..4000 {
@@ -213,6 +245,24 @@ fn main() {
             let bytes = black_box(&inputs.bytes[i]);
             black_box(plain::table(bytes, first, &mut other_values[..all], &mut other_slopes[..all], &mut other_curvatures[..all]));
             black_box((&other_values, &other_slopes, &other_curvatures));
+        },
+    );
+
+    let mut ours = ([0; KNOTS], [0; KNOTS], [0; KNOTS], [boundary::Change::default(); KNOTS]);
+    let mut other = ours;
+    line(
+        "mending of 64 knots",
+        |i| {
+            let sheet = black_box(&inputs.sheets[i]);
+            ours.0.copy_from_slice(&sheet.ordinates);
+            black_box(boundary::mend(&sheet.minutes, &mut ours.0, &mut ours.1, &mut ours.2, &mut ours.3));
+            black_box(&ours);
+        },
+        |i| {
+            let sheet = black_box(&inputs.sheets[i]);
+            other.0.copy_from_slice(&sheet.ordinates);
+            black_box(plain::mend(&sheet.minutes, &mut other.0, &mut other.1, &mut other.2, &mut other.3));
+            black_box(&other);
         },
     );
 }

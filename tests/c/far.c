@@ -135,6 +135,15 @@ int main(void) {
             free(c.first), free(d.first), free(e.first);
             break;
         }
+        case 'h': {
+            a = list(2), b = list(2), c = list(4), d = list(4), e = list(sizeof(kaihveto_change));
+            kaihveto_mend_answer r =
+                kaihveto_mend(a.first, a.length, b.first, b.length, c.first, c.length, d.first, d.length, e.first, e.length);
+            give(&r, sizeof r);
+            give_back(b), give_back(c), give_back(d), give_back(e);
+            free(a.first), free(b.first), free(c.first), free(d.first), free(e.first);
+            break;
+        }
         default:
             return 1;
         }

@@ -1,5 +1,5 @@
-/* Fits document 01's Table 3 through the C header, writes its card, checks it, reads it back and takes readings off it.
-   What it prints is held against reads_a_card.expected. */
+/* Fits document 01's Table 3 through the C header, writes its card, checks it, reads it back and takes readings off it; then a
+   log's mean, and a sheet with two holes mended and put back. What it prints is held against reads_a_card.expected. */
 
 #include <stdio.h>
 
@@ -60,5 +60,16 @@ int main(void)
     const uint8_t log[3] = {100, 255, 102};
     kaihveto_mean_answer mean = kaihveto_mean(60, log, sizeof log);
     printf("mean: %u at %u, minute %u, ordinate %d, good %u\n", mean.number, mean.place, mean.minute, mean.ordinate, mean.good);
+
+    int16_t sheet[KNOTS] = {500, KAIHVETO_HOLE, 401, KAIHVETO_HOLE, 500};
+    kaihveto_change changes[KNOTS];
+    kaihveto_mend_answer mended = kaihveto_mend(minutes, KNOTS, sheet, KNOTS, slopes, KNOTS, curvatures, KNOTS, changes, KNOTS);
+    printf("mend: %u at %u, %u changes\n", mended.number, mended.place, mended.count);
+    for (uint32_t i = 0; i < mended.count; i++) {
+        printf("place %u: %d became %d, on the sheet %d\n", changes[i].place, changes[i].old_number, changes[i].new_number,
+               sheet[changes[i].place]);
+        sheet[changes[i].place] = (int16_t)changes[i].old_number;
+    }
+    printf("put back: %d %d %d %d %d\n", sheet[0], sheet[1], sheet[2], sheet[3], sheet[4]);
     return 0;
 }

@@ -10,6 +10,7 @@ static uint16_t minutes[KNOTS];
 static int16_t ordinates[KNOTS];
 static int32_t slopes[KNOTS], curvatures[KNOTS];
 static int32_t table_values[MINUTES], table_slopes[MINUTES], table_curvatures[MINUTES];
+static kaihveto_change changes[KNOTS];
 static uint8_t card[KAIHVETO_CARD_BYTES(KNOTS)], log_bytes[60];
 
 static uint32_t mean(void) {
@@ -49,6 +50,13 @@ static uint32_t refit(void) {
     return kaihveto_refit(card, sizeof card, slopes, KNOTS, curvatures, KNOTS).number;
 }
 
+static uint32_t mend(void) {
+    for (int i = 1; i < KNOTS - 1; i++)
+        ordinates[i] = i % 3 == 0 ? ordinates[i] : KAIHVETO_HOLE;
+    kaihveto_mend_answer r = kaihveto_mend(minutes, KNOTS, ordinates, KNOTS, slopes, KNOTS, curvatures, KNOTS, changes, KNOTS);
+    return r.count != 0 ? r.number : 1;
+}
+
 static void paint(void) {
     volatile uint8_t below[DEPTH];
     for (size_t i = 0; i < DEPTH; i++)
@@ -84,5 +92,6 @@ int main(void) {
     good &= line("reading", reading);
     good &= line("table", table);
     good &= line("refit", refit);
+    good &= line("mend", mend);
     return good ? 0 : 1;
 }

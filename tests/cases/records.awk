@@ -2,10 +2,10 @@
 
 BEGIN {
     FS = " *[|] *"
-    split("minutes ordinates slopes curvatures ends left right minute log bytes length room places", names, " ")
+    split("minutes ordinates slopes curvatures ends left right minute log bytes length room changes places", names, " ")
     for (i in names) known[names[i]] = 1
     for (i = 1; i < 256; i++) character[sprintf("%c", i)] = i
-    printed = 0; mean = 1; reading = 2; check = 3; fit = 4; fit_codes = 5; write = 6; read = 7
+    printed = 0; mean = 1; reading = 2; check = 3; fit = 4; fit_codes = 5; write = 6; read = 7; mend = 8
 }
 
 function fail(words) {
@@ -174,8 +174,12 @@ function bytes_record(kind, minute, bytes) {
     record(kind, 0, 0, 0, 0, minute, 0, bytes)
 }
 
-function lists_record(kind, rest) {
-    record(kind, value["places", 1], value["places", 2], value["places", 3], value["places", 4], value["ends", 1], value["ends", 2], rest)
+function lists_record(kind, left, right, rest) {
+    record(kind, value["places", 1], value["places", 2], value["places", 3], value["places", 4], left, right, rest)
+}
+
+function ended_record(kind, rest) {
+    lists_record(kind, value["ends", 1], value["ends", 2], rest)
 }
 
 function ask(word,    x, y, m, c) {
@@ -183,12 +187,14 @@ function ask(word,    x, y, m, c) {
     if (word == "mean") bytes_record(mean, number("minute", 0), all_of("log"))
     else if (word == "reading") bytes_record(reading, number("minute", 0), card())
     else if (word == "check") bytes_record(check, 0, card())
-    else if (word == "fit" && !given["ends"]) lists_record(fit, lent("minutes", x, 2) lent("ordinates", y, 2) sevens(m, 4) sevens(c, 4))
+    else if (word == "fit" && !given["ends"]) ended_record(fit, lent("minutes", x, 2) lent("ordinates", y, 2) sevens(m, 4) sevens(c, 4))
     else if (word == "fit")
-        lists_record(fit_codes, lent("minutes", x, 2) lent("ordinates", y, 2) sevens(m, 4) sevens(c, 4) quotient(value["left", 1]) quotient(value["left", 2]) quotient(value["right", 1]) quotient(value["right", 2]))
+        ended_record(fit_codes, lent("minutes", x, 2) lent("ordinates", y, 2) sevens(m, 4) sevens(c, 4) quotient(value["left", 1]) quotient(value["left", 2]) quotient(value["right", 1]) quotient(value["right", 2]))
     else if (word == "write")
-        lists_record(write, lent("minutes", x, 2) lent("ordinates", y, 2) lent("slopes", m, 4) lent("curvatures", c, 4) sevens(number("room", 14 + 16 * count["minutes"]), 1))
-    else if (word == "read") lists_record(read, sevens(x, 2) sevens(y, 2) sevens(m, 4) sevens(c, 4) card())
+        ended_record(write, lent("minutes", x, 2) lent("ordinates", y, 2) lent("slopes", m, 4) lent("curvatures", c, 4) sevens(number("room", 14 + 16 * count["minutes"]), 1))
+    else if (word == "read") ended_record(read, sevens(x, 2) sevens(y, 2) sevens(m, 4) sevens(c, 4) card())
+    else if (word == "mend")
+        lists_record(mend, number("changes", count["minutes"]), 0, lent("minutes", x, 2) lent("ordinates", y, 2) sevens(m, 4) sevens(c, 4))
     else fail("nothing is asked by " word)
 }
 

@@ -111,6 +111,25 @@ fn fit_codes(
     fitted(answer, slopes, curvatures);
 }
 
+fn mend(
+    room: usize,
+    minutes: &[u16],
+    ordinates: &mut [i16],
+    slopes: &mut [i32],
+    curvatures: &mut [i32],
+) {
+    let plan = mend::mend(minutes, ordinates, slopes, curvatures, room);
+    print::verdict(b"mend", plan.number, plan.place);
+    print::counted(b"; count", plan.count);
+    let places = plan.places;
+    let olds = plan.olds;
+    let news = plan.news;
+    print::changes(plan.count, &places, &olds, &news);
+    print::ordinates(ordinates);
+    print::numbers(b"; slopes", slopes);
+    print::numbers(b"; curvatures", curvatures);
+}
+
 // The questions about bytes, by the kind of the record; kind 0 is a text to print.
 pub(crate) fn of_bytes(kind: u16, minute: u16, list: &[u8]) {
     match kind {
@@ -123,13 +142,13 @@ pub(crate) fn of_bytes(kind: u16, minute: u16, list: &[u8]) {
     }
 }
 
-// The questions about knots.
+// The questions about knots. In place of the left end's code, mending has how many places its list of changes has.
 pub(crate) fn of_knots(
     kind: u16,
     left: u16,
     right: u16,
     minutes: &[u16],
-    ordinates: &[i16],
+    ordinates: &mut [i16],
     slopes: &mut [i32],
     curvatures: &mut [i32],
     list: &mut [u8],
@@ -143,8 +162,12 @@ pub(crate) fn of_knots(
             fit_codes(left, right, minutes, ordinates, slopes, curvatures, list);
             return;
         }
-        _ => {
+        6 => {
             write(left, right, minutes, ordinates, slopes, curvatures, list);
+            return;
+        }
+        _ => {
+            mend(left as usize, minutes, ordinates, slopes, curvatures);
             return;
         }
     }

@@ -108,7 +108,7 @@ pub(crate) fn question(kind: u16, body: &mut [u8]) {
         left,
         right,
         &minutes[..x],
-        &ordinates[..y],
+        &mut ordinates[..y],
         &mut slopes[..m],
         &mut curvatures[..c],
         &mut body[rest..],

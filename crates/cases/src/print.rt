@@ -68,3 +68,19 @@ pub(crate) fn numbers(word: &[u8], list: &[i32]) {
         i += 1;
     }
 }
+
+// A change as its place, its old number and its new one.
+fn change(place: u32, old: i32, new: i32) {
+    counted(b"; change", place);
+    named(b"", old);
+    named(b"", new);
+}
+
+// The first of the changes, as many as are counted.
+pub(crate) fn changes(count: u32, places: &[u32], olds: &[i32], news: &[i32]) {
+    let mut i: usize = 0;
+    while i < count as usize && i < places.len() && i < olds.len() && i < news.len() {
+        change(places[i], olds[i], news[i]);
+        i += 1;
+    }
+}

@@ -73,6 +73,24 @@ pub struct Refitted {
     pub changed: u32,
 }
 
+/// A place of the list of changes that kaihveto_mend takes.
+#[repr(C)]
+#[derive(Clone, Copy, Debug, Default, PartialEq, Eq)]
+pub struct Change {
+    pub place: u32,
+    pub old: i32,
+    pub new: i32,
+}
+
+/// What kaihveto_mend answers.
+#[repr(C)]
+#[derive(Clone, Copy, Debug, Default, PartialEq, Eq)]
+pub struct Mended {
+    pub number: u32,
+    pub place: u32,
+    pub count: u32,
+}
+
 /// An end as the boundary takes it: a code number and the two numbers beside it.
 #[derive(Clone, Copy, Debug)]
 pub struct End {
@@ -157,6 +175,18 @@ extern "C" {
         curvatures: *mut i32,
         curvatures_length: usize,
     ) -> Refitted;
+    fn kaihveto_mend(
+        minutes: *const u16,
+        minutes_length: usize,
+        ordinates: *mut i16,
+        ordinates_length: usize,
+        slopes: *mut i32,
+        slopes_length: usize,
+        curvatures: *mut i32,
+        curvatures_length: usize,
+        changes: *mut Change,
+        changes_length: usize,
+    ) -> Mended;
 }
 
 // Each call below passes pointers and lengths of slices that live until it returns and, where they are lent for writing, overlap no other.
@@ -263,4 +293,21 @@ pub fn table(card: &[u8], from: u16, values: &mut [i32], slopes: &mut [i32], cur
 
 pub fn refit(card: &[u8], slopes: &mut [i32], curvatures: &mut [i32]) -> Refitted {
     unsafe { kaihveto_refit(card.as_ptr(), card.len(), slopes.as_mut_ptr(), slopes.len(), curvatures.as_mut_ptr(), curvatures.len()) }
+}
+
+pub fn mend(minutes: &[u16], ordinates: &mut [i16], slopes: &mut [i32], curvatures: &mut [i32], changes: &mut [Change]) -> Mended {
+    unsafe {
+        kaihveto_mend(
+            minutes.as_ptr(),
+            minutes.len(),
+            ordinates.as_mut_ptr(),
+            ordinates.len(),
+            slopes.as_mut_ptr(),
+            slopes.len(),
+            curvatures.as_mut_ptr(),
+            curvatures.len(),
+            changes.as_mut_ptr(),
+            changes.len(),
+        )
+    }
 }

@@ -1,4 +1,5 @@
-//! Document 01's own cases, run on the reference: Table 3, P1 to P12 and the other cases at the edges.
+//! Document 01's own cases, run on the reference: Table 3, P1 to P12 and the other cases at the edges; and cases of document 02's orders, worked
+//! by hand.
 
 use crate::random::Random;
 use crate::reference::*;
@@ -157,4 +158,119 @@ fn card_units_round_the_exact_number() {
     assert_eq!(card_units(5e-324), 0);
     assert_eq!(card_units(256.0), 1_048_576);
     assert!(card_units(f64::MAX) > 1 << 64);
+}
+
+/// What mending a sheet into a list of so many changes answers: number, place, the changes as (place, new number) and the sheet then.
+/// The old numbers are the holes', nothing is written behind the changes or on a refusal, and putting them back gives the sheet as it came.
+fn mended(minutes: &[u16], ordinates: &[i16], room: usize) -> (u32, u32, Vec<(u32, i32)>, Vec<i16>) {
+    let n = minutes.len();
+    let untouched = Change { place: 77, old: 78, new: 79 };
+    let (mut sheet, mut slopes, mut curvatures, mut changes) = (ordinates.to_vec(), vec![7; n], vec![7; n], vec![untouched; room]);
+    let answer = mend(minutes, &mut sheet, &mut slopes, &mut curvatures, &mut changes);
+    let count = answer.unwrap_or(0) as usize;
+    assert!(changes[count..].iter().all(|&change| change == untouched));
+    assert!(changes[..count].iter().all(|change| change.old == -32_768));
+    assert_eq!(put_back(&sheet, &changes[..count]).as_deref(), Some(ordinates));
+    if answer.is_err() {
+        assert_eq!((&slopes, &curvatures), (&vec![7; n], &vec![7; n]));
+        assert_eq!(sheet, ordinates);
+    } else {
+        let (mut fit_slopes, mut fit_curvatures) = (vec![0; n], vec![0; n]);
+        assert_eq!(fit_ends(minutes, &sheet, &mut fit_slopes, &mut fit_curvatures, FREE, FREE), Ok(()));
+        assert_eq!((slopes, curvatures), (fit_slopes, fit_curvatures));
+    }
+    let (number, place) = number_and_place(answer);
+    (number, place, changes[..count].iter().map(|change| (change.place, change.new)).collect(), sheet)
+}
+
+/// The one hole between two knots, at the middle of its gap.
+fn between(left: i16, right: i16) -> i32 {
+    let (number, place, changes, sheet) = mended(&[10, 12, 14], &[left, HOLE, right], 1);
+    assert_eq!((number, place, changes.len(), changes[0].0), (0, 0, 1, 1));
+    assert_eq!(sheet, [left, changes[0].1 as i16, right]);
+    changes[0].1
+}
+
+#[test]
+fn a_hole_is_filled_to_nearest_with_ties_to_even() {
+    assert_eq!(between(0, 1), 0);
+    assert_eq!(between(1, 2), 2);
+    assert_eq!(between(2, 3), 2);
+    assert_eq!(between(3, 4), 4);
+    assert_eq!(between(0, -1), 0);
+    assert_eq!(between(-1, -2), -2);
+    assert_eq!(between(-2, -3), -2);
+    assert_eq!(between(-3, -4), -4);
+    assert_eq!(between(-1, 2), 0);
+    assert_eq!(between(5, -2), 2);
+    // The line's value is rounded and not what it adds to its left knot, which would give 1 + 2 here.
+    assert_eq!(between(1, 4), 2);
+}
+
+#[test]
+fn holes_in_a_row_lie_on_one_line_between_knots_that_were_sound() {
+    // From 0 to 1 over 3 minutes: 1/3 is 0 and 2/3 is 1. From the filled 0 on, the second would stand at 1/2 and be 0.
+    assert_eq!(mended(&[0, 1, 2, 3], &[0, HOLE, HOLE, 1], 2), (0, 0, vec![(1, 0), (2, 1)], vec![0, 0, 1, 1]));
+    // From 0 to 10 over 15 minutes: 10·4/15 is 2.67, 10·9/15 is 6.
+    assert_eq!(mended(&[0, 4, 9, 15], &[0, HOLE, HOLE, 10], 2), (0, 0, vec![(1, 3), (2, 6)], vec![0, 3, 6, 10]));
+    // Three in a row with unequal gaps, down from 100 to -101 over 40 minutes: 100 − 201·1/40 is 94.975, − 201·20/40 is −0.5, − 201·37/40 is −85.925.
+    let filled = vec![(1, 95), (2, 0), (3, -86)];
+    assert_eq!(mended(&[5, 6, 25, 42, 45], &[100, HOLE, HOLE, HOLE, -101], 3), (0, 0, filled, vec![100, 95, 0, -86, -101]));
+    // Two runs, each between its own knots.
+    let filled = vec![(1, 10), (3, 30)];
+    assert_eq!(mended(&[0, 10, 20, 30, 40], &[0, HOLE, 20, HOLE, 40], 2), (0, 0, filled, vec![0, 10, 20, 30, 40]));
+}
+
+#[test]
+fn a_hole_at_an_end_is_17_at_that_hole() {
+    let at = |ordinates: &[i16], room: usize| {
+        let minutes: Vec<u16> = (0..ordinates.len() as u16).map(|i| 10 * i).collect();
+        let (number, place, ..) = mended(&minutes, ordinates, room);
+        (number, place)
+    };
+    assert_eq!(at(&[HOLE, 0, 0], 3), (17, 0));
+    assert_eq!(at(&[0, 0, HOLE], 3), (17, 2));
+    assert_eq!(at(&[0, HOLE, HOLE], 3), (17, 1));
+    assert_eq!(at(&[0, HOLE, 0, HOLE], 4), (17, 3));
+    assert_eq!(at(&[HOLE, HOLE, 0, HOLE], 4), (17, 0));
+    assert_eq!(at(&[HOLE, HOLE, HOLE], 3), (17, 0));
+    // 6, 4 and 5 before it, 18 behind it.
+    assert_eq!(at(&[HOLE, 0, 20_001], 3), (6, 2));
+    assert_eq!(at(&[HOLE, 0, 0], 0), (17, 0));
+    let spoilt = |minutes: &[u16]| mended(minutes, &[0, HOLE, 0], 0).0;
+    assert_eq!((spoilt(&[0, 0, 1]), spoilt(&[0, 61, 62]), spoilt(&[0, 1, 62]), spoilt(&[0, 1, 2])), (4, 5, 5, 18));
+}
+
+#[test]
+fn the_list_of_changes_needs_a_place_for_each_hole() {
+    let holes = [0, HOLE, HOLE, 30];
+    let into = |ordinates: &[i16], room: usize| {
+        let (number, place, changes, _) = mended(&[0, 1, 2, 3], ordinates, room);
+        (number, place, changes.len())
+    };
+    assert_eq!(into(&holes, 0), (18, 0, 0));
+    assert_eq!(into(&holes, 1), (18, 0, 0));
+    assert_eq!(into(&holes, 2), (0, 0, 2));
+    assert_eq!(into(&holes, 3), (0, 0, 2));
+    assert_eq!(into(&[0; 4], 0), (0, 0, 0));
+    assert_eq!(into(&[0; 4], 1), (0, 0, 0));
+}
+
+#[test]
+fn a_refused_fit_leaves_the_sheet_with_its_holes() {
+    // Document 01's five knots a minute apart, with a hole and a knot behind them.
+    let (minutes, ordinates) = ([0, 1, 2, 3, 4, 5, 6], [100, 0, 100, 0, 100, HOLE, 0]);
+    let (number, place, changes, sheet) = mended(&minutes, &ordinates, 7);
+    assert_eq!((number, place, changes.len()), (9, 0, 0));
+    assert_eq!(sheet, ordinates);
+}
+
+#[test]
+fn a_hole_is_6_for_fit_writer_and_card() {
+    let (minutes, ordinates) = ([0, 8, 16], [0, HOLE, 0]);
+    assert_eq!(fit_number(&minutes, &ordinates, FREE, FREE), (6, 1));
+    assert_eq!(number_and_place(write(&minutes, &ordinates, &[0; 3], &[0; 3], 0, 0, &mut [0; 62])), (6, 1));
+    assert_eq!(number_and_place(check(&card_bytes(&minutes, &ordinates, &[0; 3], &[0; 3], 0, 0))), (6, 1));
+    // Only the mark passes: one above it does not.
+    assert_eq!(mended(&[0, 8, 16], &[0, HOLE + 1, 0], 3).0, 6);
 }

@@ -63,6 +63,16 @@ fn u8_pattern(length: usize) -> Vec<u8> {
     pattern(length, |i| 0xA5 ^ i as u8)
 }
 
+fn change_pattern(length: usize) -> Vec<boundary::Change> {
+    pattern(length, |i| boundary::Change { place: 0xA5A5_0000 + i as u32, old: 0x5A5A_0000 + i as i32, new: -0x5A5A_0000 - i as i32 })
+}
+
+/// What is handed in to be read and written, with a pattern around it.
+fn within_a_pattern<T: Copy>(mut pattern: Vec<T>, given: &[T]) -> Vec<T> {
+    lent(&mut pattern).copy_from_slice(given);
+    pattern
+}
+
 fn lent<T>(list: &mut [T]) -> &mut [T] {
     let end = list.len() - GUARD;
     &mut list[GUARD..end]
@@ -214,4 +224,39 @@ pub fn refit(tally: &mut Tally, card: &[u8], lengths: [usize; 2]) {
     };
     let alike = slopes == wanted_slopes && curvatures == wanted_curvatures;
     tally.count(number(&wanted), ours, wanted_answer, alike, || format!("refit {} into {lengths:?}", hex(card)));
+}
+
+fn as_the_reference_has_it(change: boundary::Change) -> reference::Change {
+    let boundary::Change { place, old, new } = change;
+    reference::Change { place, old, new }
+}
+
+/// A sheet mended, into lists for slopes and curvatures and a list of changes of these lengths. What the library's own list of
+/// changes puts back must be the sheet as it came, after a refusal too.
+pub fn mend(tally: &mut Tally, minutes: &[u16], sheet: &[i16], lengths: [usize; 2], room: usize) {
+    let lists = lengths.map(i32_pattern);
+    let [mut slopes, mut curvatures] = lists.clone();
+    let mut ordinates = within_a_pattern(i16_pattern(sheet.len()), sheet);
+    let mut wanted_ordinates = ordinates.clone();
+    let mut changes = change_pattern(room);
+    let mut wanted_changes: Vec<reference::Change> = changes.iter().copied().map(as_the_reference_has_it).collect();
+    let ours = boundary::mend(minutes, lent(&mut ordinates), lent(&mut slopes), lent(&mut curvatures), lent(&mut changes));
+    let [mut wanted_slopes, mut wanted_curvatures] = lists;
+    let wanted = reference::mend(
+        minutes,
+        lent(&mut wanted_ordinates),
+        lent(&mut wanted_slopes),
+        lent(&mut wanted_curvatures),
+        lent(&mut wanted_changes),
+    );
+    let wanted_answer = match wanted {
+        Ok(count) => boundary::Mended { count, ..Default::default() },
+        Err(Refusal { number, place }) => boundary::Mended { number, place, ..Default::default() },
+    };
+    let mut changes: Vec<reference::Change> = changes.into_iter().map(as_the_reference_has_it).collect();
+    let alike = ordinates == wanted_ordinates && slopes == wanted_slopes && curvatures == wanted_curvatures && changes == wanted_changes;
+    let written = lent(&mut changes).get(..ours.count as usize);
+    let came_back = written.and_then(|written| reference::put_back(lent(&mut ordinates), written)).as_deref() == Some(sheet);
+    let input = || format!("mend {minutes:?} {sheet:?} into {lengths:?} with {room} changes");
+    tally.count(number(&wanted), ours, wanted_answer, alike && came_back, input);
 }

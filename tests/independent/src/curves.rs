@@ -2,7 +2,7 @@
 //! cards that stand just within or just past the allowance.
 
 use crate::random::Random;
-use crate::reference::{self, card_bytes, End, Knot, CARD_NUMBER_LIMIT, FREE, ORDINATE_LIMIT, WIDEST_GAP};
+use crate::reference::{self, card_bytes, End, Knot, CARD_NUMBER_LIMIT, FREE, HOLE, ORDINATE_LIMIT, WIDEST_GAP};
 
 /// Minutes and ordinates.
 #[derive(Clone, Debug)]
@@ -121,6 +121,36 @@ pub fn spoil(random: &mut Random, sheet: &mut Sheet) {
         4 => sheet.ordinates[i] = random.pick(&[ORDINATE_LIMIT, -ORDINATE_LIMIT]),
         5 => sheet.ordinates[i] = random.pick(&[ORDINATE_LIMIT + 1, -ORDINATE_LIMIT - 1]),
         _ => sheet.ordinates[i] = random.pick(&[i16::MIN, i16::MAX]),
+    }
+}
+
+/// Makes holes in a sheet: mostly between its ends, one, some, a row or all; and in other turns none, a row at an end, anywhere, or
+/// all knots.
+pub fn pierce(random: &mut Random, sheet: &mut Sheet) {
+    let n = sheet.ordinates.len();
+    if n == 0 {
+        return;
+    }
+    let (one, other) = (random.below(n), random.below(n));
+    let (from, to) = (one.min(other), one.max(other));
+    let shape = random.below(12);
+    for place in 0..n {
+        let inner = 0 < place && place < n - 1;
+        let hole = match shape {
+            0 => false,
+            1 => inner && place == from,
+            2 => inner && random.once_in(2),
+            3 => inner && from <= place && place <= to,
+            4 => inner,
+            5 => place <= from,
+            6 => place >= to,
+            7 => true,
+            8 => random.once_in(4),
+            _ => inner && random.once_in(5),
+        };
+        if hole {
+            sheet.ordinates[place] = HOLE;
+        }
     }
 }
 

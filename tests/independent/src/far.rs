@@ -1,7 +1,7 @@
 //! The library's functions on a machine that cannot link them, since the archive is for x86-64: each call goes to tests/c/far.c, which is linked with the archive and
 //! runs in a process of its own. KAIHVETO_FAR names that program, and KAIHVETO_RUN the command that runs it.
 
-use crate::boundary::{Checked, Fitted, Mean, Reading, Refitted, Tabled, Written};
+use crate::boundary::{Change, Checked, Fitted, Mean, Mended, Reading, Refitted, Tabled, Written};
 use std::env;
 use std::io::{BufReader, Read, Write};
 use std::mem::{size_of, MaybeUninit};
@@ -213,5 +213,28 @@ pub unsafe fn kaihveto_refit(
     let answer = far.answer();
     far.list(slopes, slopes_length);
     far.list(curvatures, curvatures_length);
+    answer
+}
+
+#[allow(clippy::too_many_arguments)]
+pub unsafe fn kaihveto_mend(
+    minutes: *const u16,
+    minutes_length: usize,
+    ordinates: *mut i16,
+    ordinates_length: usize,
+    slopes: *mut i32,
+    slopes_length: usize,
+    curvatures: *mut i32,
+    curvatures_length: usize,
+    changes: *mut Change,
+    changes_length: usize,
+) -> Mended {
+    let sheet = Call::new(b'h').list(minutes, minutes_length).list(ordinates, ordinates_length);
+    let mut far = sheet.list(slopes, slopes_length).list(curvatures, curvatures_length).list(changes, changes_length).made();
+    let answer = far.answer();
+    far.list(ordinates, ordinates_length);
+    far.list(slopes, slopes_length);
+    far.list(curvatures, curvatures_length);
+    far.list(changes, changes_length);
     answer
 }

@@ -3,7 +3,7 @@
 use crate::compare::{self, Tally};
 use crate::curves::{self, Numbers, Sheet, Turn};
 use crate::random::Random;
-use crate::reference::{card_size, End, FREE, LONGEST_LOG, MOST_KNOTS, WIDEST_GAP};
+use crate::reference::{card_size, End, FREE, HOLE, LONGEST_LOG, MOST_KNOTS, ORDINATE_LIMIT, WIDEST_GAP};
 use std::time::Instant;
 
 const CODES: [u16; 3] = [0, 1, 2];
@@ -110,6 +110,8 @@ fn halves(tally: &mut Tally, random: &mut Random) {
 fn lengths(tally: &mut Tally, random: &mut Random) {
     let sizes = [0, 2, 3, 4, 64, 65];
     let sheet = curves::sheet(random, 65);
+    let mut holes = sheet.clone();
+    curves::pierce(random, &mut holes);
     let card = curves::fitted(random, 4, 0, 0).bytes();
     let spoilt = &card[..card.len() - 1];
     let zeros = [0; 65];
@@ -122,6 +124,7 @@ fn lengths(tally: &mut Tally, random: &mut Random) {
         compare::write(tally, minutes, ordinates, &zeros[..c], &zeros[..d], [code, 0], random.pick(&[0, 62, 78, 1038]));
         compare::read(tally, &card, [a, b, c, d]);
         compare::read(tally, spoilt, [a, b, c, d]);
+        compare::mend(tally, minutes, &holes.ordinates[..b], [c, d], random.pick(&[0, 1, 2, 66]));
     }
 }
 
@@ -459,11 +462,118 @@ fn refits(tally: &mut Tally, random: &mut Random) {
     }
 }
 
+/// One sheet mended, with a list of changes that has no place, one too few, just enough and more than that.
+fn mend_into_all(tally: &mut Tally, sheet: &Sheet) {
+    let n = sheet.minutes.len();
+    let holes = sheet.ordinates.iter().filter(|&&ordinate| ordinate == HOLE).count();
+    for room in [0, holes.saturating_sub(1), holes, holes + 1, 66] {
+        compare::mend(tally, &sheet.minutes, &sheet.ordinates, [n, n], room);
+    }
+}
+
+/// The minutes from a first one on, with these gaps.
+fn minutes_after(first: u16, gaps: &[u16]) -> Vec<u16> {
+    let mut minutes = vec![first];
+    for gap in gaps {
+        minutes.push(minutes[minutes.len() - 1] + gap);
+    }
+    minutes
+}
+
+/// A sheet whose ends alone are sound.
+fn hollow(minutes: Vec<u16>, left: i16, right: i16) -> Sheet {
+    let mut ordinates = vec![HOLE; minutes.len()];
+    ordinates[0] = left;
+    ordinates[minutes.len() - 1] = right;
+    Sheet { minutes, ordinates }
+}
+
+/// Lines on both sides of zero, so that many a hole stands at a half: one hole, two in a row, three in a row.
+fn mends_at_a_half(tally: &mut Tally) {
+    let rows: [&[u16]; 14] = [
+        &[1, 1],
+        &[2, 2],
+        &[1, 3],
+        &[3, 1],
+        &[7, 7],
+        &[1, 59],
+        &[30, 30],
+        &[60, 60],
+        &[59, 60],
+        &[1, 1, 1],
+        &[1, 2, 1],
+        &[5, 14, 9],
+        &[60, 30, 30],
+        &[1, 19, 17, 3],
+    ];
+    for gaps in rows {
+        for left in -6..=6 {
+            for right in -6..=6 {
+                let sheet = hollow(minutes_after(3, gaps), left, right);
+                compare::mend(tally, &sheet.minutes, &sheet.ordinates, [gaps.len() + 1; 2], gaps.len() - 1);
+            }
+        }
+    }
+}
+
+/// Lines between the limits, over few and many holes, up to the last of all minutes; and ordinates about the limits and the mark
+/// beside a hole.
+fn mends_at_the_limits(tally: &mut Tally, random: &mut Random) {
+    let limit = ORDINATE_LIMIT;
+    for n in [3, 4, 5, 17, 63, MOST_KNOTS] {
+        for gap in [1, 2, 59, WIDEST_GAP] {
+            let span = gap * (n as u16 - 1);
+            for first in [0, u16::MAX - span] {
+                let minutes = minutes_after(first, &vec![gap; n - 1]);
+                for left in [limit, limit - 1, -limit, 1 - limit] {
+                    for right in [limit, limit - 1, 1, 0, -1, -limit, 1 - limit] {
+                        compare::mend(tally, &minutes, &hollow(minutes.clone(), left, right).ordinates, [n, n], MOST_KNOTS);
+                    }
+                }
+            }
+        }
+    }
+    for ordinate in [limit, limit + 1, i16::MAX, -limit, -limit - 1, HOLE + 1, HOLE] {
+        for place in 0..5 {
+            for hole in 0..5 {
+                let mut sheet = Sheet { minutes: (0..5).map(|i| 60 * i).collect(), ordinates: vec![random.within(-9, 9) as i16; 5] };
+                sheet.ordinates[hole] = HOLE;
+                sheet.ordinates[place] = ordinate;
+                mend_into_all(tally, &sheet);
+            }
+        }
+    }
+}
+
+/// Sheets of 0 to 66 knots with holes, sound and spoilt, mended; and the same sheets to fit, writer and card test, for which a hole
+/// is an ordinate beyond the limit.
+fn mends(tally: &mut Tally, random: &mut Random) {
+    for n in 0..=MOST_KNOTS + 2 {
+        for turn in 0..60 {
+            let mut sheet = curves::sheet(random, n);
+            curves::pierce(random, &mut sheet);
+            for _ in 0..turn % 3 {
+                curves::spoil(random, &mut sheet);
+            }
+            mend_into_all(tally, &sheet);
+            if turn % 6 == 0 {
+                let Sheet { minutes, ordinates } = &sheet;
+                compare::fit(tally, minutes, ordinates, [n, n]);
+                compare::write(tally, minutes, ordinates, &vec![0; n], &vec![0; n], [0, 0], card_size(n));
+                let numbers = Numbers { sheet, slopes: vec![0; n], curvatures: vec![0; n], left: 0, right: 0 };
+                compare::check(tally, &numbers.bytes());
+            }
+        }
+    }
+    mends_at_a_half(tally);
+    mends_at_the_limits(tally, random);
+}
+
 type Group = fn(&mut Tally, &mut Random);
 
 /// Runs every group, prints the numbers, and says whether nothing differed.
 pub fn all() -> bool {
-    let groups: [(&str, Group); 12] = [
+    let groups: [(&str, Group); 13] = [
         ("logs", logs),
         ("fits", fits),
         ("given numbers", given),
@@ -476,6 +586,7 @@ pub fn all() -> bool {
         ("limits", limits),
         ("tables", tables),
         ("cards fitted anew", refits),
+        ("sheets with holes", mends),
     ];
     let mut tally = Tally::default();
     for (seed, (name, group)) in groups.iter().enumerate() {

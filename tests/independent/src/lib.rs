@@ -1,4 +1,4 @@
-//! An outside check of the kaihveto library: document 01 written a second time (`reference`), the library's own
+//! An outside check of the kaihveto library: documents 01 and 02 written a second time (`reference`), the library's own
 //! functions (`boundary`), and the comparison of the two (`compare`). Nothing here is shared with the library.
 
 #[cfg(linked)]

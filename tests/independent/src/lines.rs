@@ -9,8 +9,22 @@ use std::str::FromStr;
 /// A line's fields, each as its words.
 type Fields = BTreeMap<String, Vec<String>>;
 
-const NAMES: [&str; 13] =
-    ["minutes", "ordinates", "slopes", "curvatures", "ends", "left", "right", "minute", "log", "bytes", "length", "room", "places"];
+const NAMES: [&str; 14] = [
+    "minutes",
+    "ordinates",
+    "slopes",
+    "curvatures",
+    "ends",
+    "left",
+    "right",
+    "minute",
+    "log",
+    "bytes",
+    "length",
+    "room",
+    "changes",
+    "places",
+];
 
 fn parse<T: FromStr>(word: &str) -> Result<T, String> {
     word.parse().map_err(|_| format!("{word} is no number here"))
@@ -72,6 +86,7 @@ struct Asked {
     log: Vec<u8>,
     card: Vec<u8>,
     room: usize,
+    changes: usize,
     places: [usize; 4],
 }
 
@@ -102,6 +117,7 @@ impl Asked {
             log: list(fields, "log")?,
             card,
             room: so_many(fields, "room", parse)?.map_or(card_size(n), |[room]| room),
+            changes: so_many(fields, "changes", parse)?.map_or(n, |[changes]| changes),
             places: so_many(fields, "places", parse)?.unwrap_or([n; 4]),
             minutes,
             ordinates,
@@ -168,6 +184,20 @@ impl Asked {
         format!("{}; value {}; slope {}; curvature {}", verdict(&answer), shown.value, shown.slope, shown.curvature)
     }
 
+    fn mend(&self) -> String {
+        let [x, y, m, c] = self.places;
+        let (minutes, mut ordinates) = (places_of(&self.minutes, x), places_of(&self.ordinates, y));
+        let (mut slopes, mut curvatures) = (vec![7; m], vec![7; c]);
+        let mut changes = vec![Change { place: 7, old: 7, new: 7 }; self.changes];
+        let answer = mend(&minutes, &mut ordinates, &mut slopes, &mut curvatures, &mut changes);
+        let count = answer.unwrap_or(0);
+        let mut text = format!("{}; count {count}", verdict(&answer));
+        for Change { place, old, new } in &changes[..count as usize] {
+            let _ = write!(text, "; change {place} {old} {new}");
+        }
+        text + &shown("ordinates", &ordinates) + &shown("slopes", &slopes) + &shown("curvatures", &curvatures)
+    }
+
     fn answer(&self, word: &str) -> Result<String, String> {
         match word {
             "mean" => Ok(self.mean()),
@@ -176,6 +206,7 @@ impl Asked {
             "check" => Ok(self.check()),
             "read" => Ok(self.read()),
             "reading" => Ok(self.reading()),
+            "mend" => Ok(self.mend()),
             _ => Err(format!("nothing is asked by {word}")),
         }
     }
