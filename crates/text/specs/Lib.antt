@@ -1,1 +1,2 @@
+pub mod Hole
 pub mod Sheet
