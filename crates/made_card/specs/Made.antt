@@ -2,6 +2,7 @@
 -- Assumes nothing.
 use Prim.Native.Nat.{ℕ}
 use mathlib.Core.Path.{_≡_}
+use mathlib.Core.Bool.{false}
 use mathlib.Core.List.{List}
 use lib.ListN.{take}
 use Rattle.answer.specs.Answer.{Answer, given, accepted}
@@ -17,7 +18,7 @@ use Rattle.reply.specs.Reply.{Reply}
 
 -- the fit of a sheet's knots between free ends, into as many places as there are knots
 abbrev pub sheet-fit : List ℕ → Answer Card
-sheet-fit s = let a = sheet s in let n = a .knots in fit (take n (a .minutes)) (take n (a .ordinates)) n n
+sheet-fit s = let a = sheet false s in let n = a .knots in fit (take n (a .minutes)) (take n (a .ordinates)) n n
 
 -- the bytes of the card: as many as are told, from the front of the buffer
 abbrev pub made-bytes : Reply → List ℕ

@@ -2,7 +2,7 @@
 -- Assumes nothing.
 use Prim.Native.Nat.{ℕ}
 use mathlib.Core.Path.{_≡_}
-use mathlib.Core.Bool.{Bool, cond, _&&_}
+use mathlib.Core.Bool.{Bool, false, cond, _&&_, _||_}
 use mathlib.Core.List.{List}
 use lib.Dec.{ltb, eqb}
 use lib.IntN.{ℤ, pos}
@@ -24,9 +24,9 @@ use Rattle.text.specs.Sheet.{most, sheet, blamed as blamed-word}
 use Rattle.words.specs.Said.{refused-line, wrong-line}
 use Rattle.reply.specs.declared.Answered.{Answered}
 
--- the place of 4 to 10 is a knot
+-- the place of 4 to 10 and of 17 is a knot
 abbrev pub of-a-knot : ℕ → Bool
-of-a-knot number = ltb 3 number && ltb number 11
+of-a-knot number = eqb number 17 || (ltb 3 number && ltb number 11)
 
 -- the line of the knot that is refused; 0 where no knot is
 unfoldable pub blamed : List ℕ → ℕ → ℕ → ℕ
@@ -42,25 +42,25 @@ pub record Reply : Type 0 where
 unfoldable pub refusing : List ℕ → List ℕ → Reply
 refusing words card = record { words = words; status = 49; card = card; size = 0 }
 
--- the listing, and the card with free ends
-unfoldable pub listing-of : (xs : List ℕ) (ys ms Ms : List ℤ) → List ℕ → Reply
-listing-of xs ys ms Ms card =
-    let c = lent xs ys ms Ms 0 0 in
+-- the listing of a card, and its bytes
+unfoldable pub listing-of : Card → List ℕ → Reply
+listing-of c card =
     let order = write-order quintic c (length card) in
-    record { words = listing 0 0 xs ys ms Ms; status = 48; card = lent-after order (bytes-of quintic-head c) card; size = written order (size (knots c)) .bytes }
+    record { words = listing 0 0 (c .minutes) (c .ordinates) (c .slopes) (c .curvatures); status = 48; card = lent-after order (bytes-of quintic-head c) card; size = written order (size (knots c)) .bytes }
 
--- of a fit between these knots, which stand on these lines, and whose slopes and curvatures go over two lent lists
-unfoldable pub reply-of : Answer Card → (xs : List ℕ) (ys ms Ms : List ℤ) (lines card : List ℕ) → Reply
-reply-of f xs ys ms Ms lines card =
-    cond (eqb (number f) 0) (listing-of xs ys (slopes-after f ms) (curvatures-after f Ms) card)
-    (refusing (refused-line (number f) (place f) (blamed lines (number f) (place f))) card)
+-- to knots that are refused with a number at a place, or to the card that was made of them; they stand on these lines
+unfoldable pub reply-of : (number place : ℕ) → Card → (lines card : List ℕ) → Reply
+reply-of number place c lines card = cond (eqb number 0) (listing-of c card) (refusing (refused-line number place (blamed lines number place)) card)
 
+-- to a fit of these knots, whose slopes and curvatures go over two lent lists; its ends are free
 abbrev pub fit-reply : (xs : List ℕ) (ys ms Ms : List ℤ) (lines card : List ℕ) → Reply
-fit-reply xs ys ms Ms lines card = reply-of (fit xs ys (length ms) (length Ms)) xs ys ms Ms lines card
+fit-reply xs ys ms Ms lines card =
+    let f = fit xs ys (length ms) (length Ms) in
+    reply-of (number f) (place f) (lent xs ys (slopes-after f ms) (curvatures-after f Ms) 0 0) lines card
 
 unfoldable pub reply : List ℕ → List ℕ → Reply
 reply s card =
-    let a = sheet s in
+    let a = sheet false s in
     let n = a .knots in
     let zeros = take n (replicate most (pos 0)) in
     cond (eqb (a .wrong) 0) (fit-reply (take n (a .minutes)) (take n (a .ordinates)) zeros zeros (a .lines) card) (refusing (wrong-line (a .wrong) (a .line) (blamed-word s (a .line))) card)

@@ -3,16 +3,24 @@ use text::Sheet;
 ghost use mathlib.Core.Path.{_≡_};
 ghost use Prim.Native.Nat.{_≤_};
 ghost use lib.ListN.{length};
-ghost use Rattle.reply.specs.Reply.{blamed, fit-reply, reply, Answers};
+ghost use Rattle.knots.specs.Lent.{lent};
+ghost use Rattle.reply.specs.Reply.{of-a-knot, blamed, reply-of, fit-reply, reply, Answers};
+
+// The numbers whose place is a knot.
+fn of_a_knot(number: u32) -> bool
+    ensures { λ r. ⌜ r ≡ of-a-knot number ⌝ }
+{
+    if number == 17 {
+        return true;
+    }
+    3 < number && number < 11
+}
 
 // The line of the knot that is refused; 0 where no knot is.
 fn blamed(lines: [u32; Sheet::MOST], number: u32, knot: u32) -> u32
     ensures { λ r. ⌜ r ≡ blamed lines number knot ⌝ }
 {
-    if number <= 3 {
-        return 0;
-    }
-    if 11 <= number {
+    if !of_a_knot(number) {
         return 0;
     }
     let at = knot as usize;
@@ -35,6 +43,42 @@ impl Answered {
     pub const REFUSED: u8 = b'1';
 }
 
+// Knots that were fitted, or refused with this number at this place: what is said of them, and the card with these codes of its ends.
+fn told(
+    number: u32,
+    place: u32,
+    minutes: &[u16],
+    ordinates: &[i16],
+    slopes: &[i32],
+    curvatures: &[i32],
+    left: u16,
+    right: u16,
+    lines: [u32; Sheet::MOST],
+    to: &mut [u8],
+    card: &mut [u8],
+) -> Answered
+    requires { ⌜ (length (now ordinates) ≡ length (now minutes)) × (length (now slopes) ≡ length (now minutes)) × (length (now curvatures) ≡ length (now minutes)) ⌝ }
+    requires { ⌜ (length (now minutes) ≤ 65) × (4096 ≤ length (now to)) ⌝ }
+    ensures { λ r. ⌜ Answers (reply-of number place (lent (now (minutes .entry)) (now (ordinates .entry)) (now (slopes .entry)) (now (curvatures .entry)) left right) lines (now (card .entry))) (now (to .entry)) (now (to .exit)) (now (card .exit)) r ⌝ }
+{
+    if number != 0 {
+        let line = blamed(lines, number, place);
+        let length = words::refused_line(to, number, place, line);
+        return Answered {
+            status: Answered::REFUSED,
+            length,
+            card: 0,
+        };
+    }
+    let written = writer::write(minutes, ordinates, slopes, curvatures, left, right, card);
+    let length = listing::list(0, 0, minutes, ordinates, slopes, curvatures, to);
+    Answered {
+        status: Answered::DONE,
+        length,
+        card: written.bytes,
+    }
+}
+
 fn fit_lists(
     minutes: &[u16],
     ordinates: &[i16],
@@ -49,22 +93,19 @@ fn fit_lists(
     ensures { λ r. ⌜ Answers (fit-reply (now (minutes .entry)) (now (ordinates .entry)) (now (slopes .entry)) (now (curvatures .entry)) lines (now (card .entry))) (now (to .entry)) (now (to .exit)) (now (card .exit)) r ⌝ }
 {
     let fitted = fit::fit(minutes, ordinates, slopes, curvatures);
-    if fitted.number != 0 {
-        let line = blamed(lines, fitted.number, fitted.place);
-        let length = words::refused_line(to, fitted.number, fitted.place, line);
-        return Answered {
-            status: Answered::REFUSED,
-            length,
-            card: 0,
-        };
-    }
-    let written = writer::write(minutes, ordinates, slopes, curvatures, 0, 0, card);
-    let length = listing::list(0, 0, minutes, ordinates, slopes, curvatures, to);
-    Answered {
-        status: Answered::DONE,
-        length,
-        card: written.bytes,
-    }
+    told(
+        fitted.number,
+        fitted.place,
+        minutes,
+        ordinates,
+        slopes,
+        curvatures,
+        0,
+        0,
+        lines,
+        to,
+        card,
+    )
 }
 
 // The knots of a sheet and their fit, between free ends.
@@ -72,7 +113,7 @@ pub fn answer(text: &[u8], to: &mut [u8], card: &mut [u8]) -> Answered
     requires { ⌜ 4096 ≤ length (now to) ⌝ }
     ensures { λ r. ⌜ Answers (reply (now (text .entry)) (now (card .entry))) (now (to .entry)) (now (to .exit)) (now (card .exit)) r ⌝ }
 {
-    let sheet = Sheet::read(text);
+    let sheet = Sheet::read(text, false);
     if sheet.wrong != 0 {
         let word = text::blamed(text, sheet.line);
         let length = words::wrong_line(to, sheet.wrong, sheet.line, word);

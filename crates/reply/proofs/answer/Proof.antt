@@ -1,6 +1,7 @@
 -- `reply::answer` meets its contract, by what the reading of the text answers. Assumes nothing.
 use Prim.Native.Nat.{_≤_}
 use mathlib.Core.Path.{_≡_, refl, sym, _∙_}
+use mathlib.Core.Bool.{false}
 use native.Mathlib.Omega.{arith}
 use lib.IntN.{pos}
 use lib.ListN.{length, replicate}
@@ -15,7 +16,7 @@ use Rattle.reply.proofs.answer.Statement.{statement}
 use Rattle.reply.proofs.answer.Tie as tie
 
 room : (c : tie.After-read) → Roomy (c .read .result)
-room c = rw (c .read .ensures) (roomy (now (c .before .before .before .before .args .text)))
+room c = rw (c .read .ensures) (roomy false (now (c .before .before .before .before .args .text)))
 
 minutes-hold : (c : tie.After-read) → c .read .result .knots ≤ length (c .read .result .minutes)
 minutes-hold c = let h = room c in omega arith
