@@ -24,11 +24,12 @@ sheet-fit s = let a = sheet false s in let n = a .knots in fit (take n (a .minut
 abbrev pub made-bytes : Reply → List ℕ
 made-bytes r = take (r .size) (r .card)
 
-pub record Made (s : List ℕ) (r : Reply) : Type 0 where
+-- a reply with the card that a fit gives
+pub record Made (f : Answer Card) (r : Reply) : Type 0 where
   -- the card that was made
   pub made : Card
-  -- it is the one that the fit of the sheet gives
-  pub fitted : sheet-fit s ≡ given made
+  -- it is the one that the fit gives
+  pub fitted : f ≡ given made
   -- the size is that of a card with its knots
   pub size : r .size ≡ size (knots made)
   -- the buffer's front is the card's bytes

@@ -129,8 +129,10 @@ use Rattle.text.proofs.Sheet.read.Reads as text-read
 use Rattle.words.proofs.put_sentence.Reads as put-sentence
 use Rattle.words.proofs.refused_line.Reads as refusal-said
 use Rattle.words.proofs.wrong_line.Reads as wrong-said
+use Rattle.words.proofs.mended_line.Reads as mended-said
 use Rattle.reply.specs.declared.Answered.{Answered}
 use Rattle.reply.specs.Reply.{Reply, Answers}
+use Rattle.reply.proofs.line_of.Reads as reply-line
 use Rattle.reply.proofs.answer.Reads as reply-answer
 use Rattle.card_listing.proofs.list_card.Reads as list-card
 use Rattle.kaihveto.proofs.kaihveto_mean.Reads as c-mean
@@ -412,6 +414,12 @@ refusal-told = putting _ _ _ _
 
 pub wrong-told : Once wrong-said.Post × Lent wrong-said.Post (λ s. now (s .0))
 wrong-told = putting _ _ _ _
+
+pub mended-told : Once mended-said.Post × Lent mended-said.Post (λ s. now (s .0))
+mended-told = putting _ _ _ _
+
+pub line-told : Once reply-line.Post
+line-told = equation _ _
 
 -- the buffers for what is said and for the card are the second and the third
 pub reply : Once reply-answer.Post × Lent reply-answer.Post (λ s. now (s .1 .0)) × Lent reply-answer.Post (λ s. now (s .1 .1 .0))

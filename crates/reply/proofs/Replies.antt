@@ -1,9 +1,9 @@
 -- The reply, by what the reading of a sheet and the fit answer.
 -- Assumes nothing.
 use Prim.Native.Nat.{ℕ}
-use mathlib.Core.Path.{_≡_}
-use mathlib.Core.Bool.{false}
-use mathlib.Core.List.{List}
+use mathlib.Core.Path.{_≡_, refl}
+use mathlib.Core.Bool.{Bool}
+use mathlib.Core.List.{List, []}
 use lib.IntN.{ℤ, pos}
 use lib.ListN.{take, replicate}
 use borrow.Author.Tests.{eq-eqb, ne-eqb}
@@ -15,7 +15,7 @@ use Rattle.knots.specs.Lent.{lent}
 use Rattle.text.specs.declared.Sheet.{Sheet}
 use Rattle.text.specs.Sheet.{most, sheet, blamed as blamed-word}
 use Rattle.words.specs.Said.{refused-line, wrong-line}
-use Rattle.reply.specs.Reply.{blamed, Reply, refusing, listing-of, reply-of, fit-reply, reply, Answers}
+use Rattle.reply.specs.Reply.{blamed, Reply, refusing, listing-of, reply-of, ToKnots, text-reply, Answers}
 use Rattle.reply.specs.declared.Answered.{Answered}
 
 pub answers-as : {p q : Reply} {to to′ card′ : List ℕ} {r : Answered} → p ≡ q → Answers p to to′ card′ r → Answers q to to′ card′ r
@@ -35,13 +35,14 @@ pub replies-fitted : {f : Answer Card} {ms Ms ms′ Ms′ : List ℤ} {r : Fitte
     → reply-of (r .number) (r .place) (lent xs ys ms′ Ms′ 0 0) lines card ≡ reply-of (number f) (place f) (lent xs ys (slopes-after f ms) (curvatures-after f Ms) 0 0) lines card
 replies-fitted h xs ys lines card = rw (h .answer, h .slopes, h .curvatures)
 
-module _ (s : List ℕ) {a : Sheet} (e : a ≡ sheet false s) (card : List ℕ) where
-  pub replies-wrong : (a .wrong ≡ 0 → ⊥) → refusing (wrong-line (a .wrong) (a .line) (blamed-word s (a .line))) card ≡ reply s card
-  unfolding reply
-  replies-wrong z = rw (← e, ne-eqb (a .wrong) 0 z)
+module _ (mends : Bool) (to-knots : ToKnots) (s : List ℕ) {a : Sheet} (e : a ≡ sheet mends s) (card : List ℕ) where
+  pub replies-wrong : (a .wrong ≡ 0 → ⊥) → {to to′ : List ℕ} {r : Answered} → Answers (refusing (wrong-line (a .wrong) (a .line) (blamed-word s (a .line))) []) to to′ [] r
+      → Answers (text-reply mends to-knots s card) to to′ card r
+  unfolding text-reply refusing
+  replies-wrong z h = rw (← e, ne-eqb (a .wrong) 0 z) (record { said = h .said; status = h .status; card = refl; size = h .size })
 
-  pub replies-fit : a .wrong ≡ 0
-      → fit-reply (take (a .knots) (a .minutes)) (take (a .knots) (a .ordinates)) (take (a .knots) (replicate most (pos 0))) (take (a .knots) (replicate most (pos 0))) (a .lines) card
-      ≡ reply s card
-  unfolding reply
-  replies-fit z = rw (← e, eq-eqb (a .wrong) 0 z)
+  pub replies-knots : a .wrong ≡ 0
+      → to-knots (take (a .knots) (a .minutes)) (take (a .knots) (a .ordinates)) (take (a .knots) (replicate most (pos 0))) (take (a .knots) (replicate most (pos 0))) (a .lines) card
+      ≡ text-reply mends to-knots s card
+  unfolding text-reply
+  replies-knots z = rw (← e, eq-eqb (a .wrong) 0 z)

@@ -52,18 +52,26 @@ listing-of c card =
 unfoldable pub reply-of : (number place : ℕ) → Card → (lines card : List ℕ) → Reply
 reply-of number place c lines card = cond (eqb number 0) (listing-of c card) (refusing (refused-line number place (blamed lines number place)) card)
 
--- to a fit of these knots, whose slopes and curvatures go over two lent lists; its ends are free
-abbrev pub fit-reply : (xs : List ℕ) (ys ms Ms : List ℤ) (lines card : List ℕ) → Reply
+-- to knots by their minutes and ordinates, with two lent lists for the slopes and curvatures, the lines on which they stand and the buffer for the card
+abbrev pub ToKnots : Type 0
+ToKnots = (xs : List ℕ) (ys ms Ms : List ℤ) (lines card : List ℕ) → Reply
+
+-- the fit's; its ends are free
+abbrev pub fit-reply : ToKnots
 fit-reply xs ys ms Ms lines card =
     let f = fit xs ys (length ms) (length Ms) in
     reply-of (number f) (place f) (lent xs ys (slopes-after f ms) (curvatures-after f Ms) 0 0) lines card
 
-unfoldable pub reply : List ℕ → List ℕ → Reply
-reply s card =
-    let a = sheet false s in
+-- to a text: what is wrong in it, or what its knots are answered with
+unfoldable pub text-reply : (mends : Bool) → ToKnots → (text card : List ℕ) → Reply
+text-reply mends to-knots s card =
+    let a = sheet mends s in
     let n = a .knots in
     let zeros = take n (replicate most (pos 0)) in
-    cond (eqb (a .wrong) 0) (fit-reply (take n (a .minutes)) (take n (a .ordinates)) zeros zeros (a .lines) card) (refusing (wrong-line (a .wrong) (a .line) (blamed-word s (a .line))) card)
+    cond (eqb (a .wrong) 0) (to-knots (take n (a .minutes)) (take n (a .ordinates)) zeros zeros (a .lines) card) (refusing (wrong-line (a .wrong) (a .line) (blamed-word s (a .line))) card)
+
+abbrev pub reply : (text card : List ℕ) → Reply
+reply = text-reply false fit-reply
 
 -- the reply was given: its words were put into a buffer, its card stands in another
 pub record Answers (p : Reply) (to to′ card′ : List ℕ) (r : Answered) : Type 0 where

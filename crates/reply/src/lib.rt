@@ -1,10 +1,13 @@
 // What the text of a sheet is answered with: the listing of its fit and the card's bytes, or a complaint; apart from files.
 use text::Sheet;
 ghost use mathlib.Core.Path.{_≡_};
+ghost use mathlib.Core.List.{[]};
 ghost use Prim.Native.Nat.{_≤_};
-ghost use lib.ListN.{length};
+ghost use lib.ListN.{length, getD};
 ghost use Rattle.knots.specs.Lent.{lent};
-ghost use Rattle.reply.specs.Reply.{of-a-knot, blamed, reply-of, fit-reply, reply, Answers};
+ghost use Rattle.text.specs.Sheet.{blamed as blamed-word};
+ghost use Rattle.words.specs.Said.{wrong-line};
+ghost use Rattle.reply.specs.Reply.{of-a-knot, blamed, refusing, reply-of, fit-reply, reply, Answers};
 
 // The numbers whose place is a knot.
 fn of_a_knot(number: u32) -> bool
@@ -16,18 +19,25 @@ fn of_a_knot(number: u32) -> bool
     3 < number && number < 11
 }
 
-// The line of the knot that is refused; 0 where no knot is.
-fn blamed(lines: [u32; Sheet::MOST], number: u32, knot: u32) -> u32
-    ensures { λ r. ⌜ r ≡ blamed lines number knot ⌝ }
+// The line of a knot; 0 behind the last.
+pub fn line_of(lines: [u32; Sheet::MOST], knot: u32) -> u32
+    ensures { λ r. ⌜ r ≡ getD lines knot 0 ⌝ }
 {
-    if !of_a_knot(number) {
-        return 0;
-    }
     let at = knot as usize;
     if Sheet::MOST <= at {
         return 0;
     }
     lines[at]
+}
+
+// The line of the knot that is refused; 0 where no knot is.
+fn blamed(lines: [u32; Sheet::MOST], number: u32, knot: u32) -> u32
+    ensures { λ r. ⌜ r ≡ blamed lines number knot ⌝ }
+{
+    if of_a_knot(number) {
+        return line_of(lines, knot);
+    }
+    0
 }
 
 // The status, the length of what is said, and the size of the card.
@@ -108,6 +118,20 @@ fn fit_lists(
     )
 }
 
+// What is wrong in the text of a sheet, with the word that is to blame; the card stays as it is.
+fn complain(text: &[u8], wrong: u32, line: u32, to: &mut [u8]) -> Answered
+    requires { ⌜ 4096 ≤ length (now to) ⌝ }
+    ensures { λ r. ⌜ Answers (refusing (wrong-line wrong line (blamed-word (now (text .entry)) line)) []) (now (to .entry)) (now (to .exit)) [] r ⌝ }
+{
+    let word = text::blamed(text, line);
+    let length = words::wrong_line(to, wrong, line, word);
+    Answered {
+        status: Answered::REFUSED,
+        length,
+        card: 0,
+    }
+}
+
 // The knots of a sheet and their fit, between free ends.
 pub fn answer(text: &[u8], to: &mut [u8], card: &mut [u8]) -> Answered
     requires { ⌜ 4096 ≤ length (now to) ⌝ }
@@ -115,13 +139,7 @@ pub fn answer(text: &[u8], to: &mut [u8], card: &mut [u8]) -> Answered
 {
     let sheet = Sheet::read(text, false);
     if sheet.wrong != 0 {
-        let word = text::blamed(text, sheet.line);
-        let length = words::wrong_line(to, sheet.wrong, sheet.line, word);
-        return Answered {
-            status: Answered::REFUSED,
-            length,
-            card: 0,
-        };
+        return complain(text, sheet.wrong, sheet.line, to);
     }
     let n = sheet.knots;
     let minutes = sheet.minutes;
