@@ -1,0 +1,3 @@
+pub mod Marks
+pub mod Sides
+pub mod Lines

@@ -1,0 +1,2 @@
+pub mod Hole
+pub mod Needs
