@@ -15,7 +15,7 @@ use Rattle.numeral.specs.declared.Number.the-variants.{Whole, Bad}
 use Rattle.numeral.specs.declared.Ordinate.{Ordinate}
 use Rattle.numeral.specs.declared.Ordinate.the-variants.{Given, Hole as Missing, Wrong}
 use Rattle.numeral.proofs.Numbers.{natural-upto}
-use Rattle.text.specs.Hole.{hole}
+use Rattle.holes.specs.Hole.{hole}
 use Rattle.text.specs.Sheet.{too-long, knot-by, line-by, is-hole, line, most, refused, with-knot, taken, goes-on, read, longest, sheet}
 use Rattle.text.specs.declared.Line.{Line}
 use Rattle.text.specs.declared.Line.the-variants.{Empty, Knot, Hole, Refused}

@@ -9,7 +9,7 @@ use lib.ListN.{take}
 use Rattle.decimal.specs.Decimal.{spelled, value-from}
 use Rattle.split.specs.Parts.{marks, stop, split, some, words}
 use Rattle.numeral.specs.Number.{not-whole, leading-zero, too-large, starts, at-most, natural, above, below, ordinate}
-use Rattle.text.specs.Hole.{hole}
+use Rattle.holes.specs.Hole.{hole}
 use Rattle.text.specs.Sheet.{too-few, too-many, is-hole, knot-by, line-by, line, blamed-of, blamed-by, blamed, refused, with-knot, taken, goes-on, read, sheet}
 use Rattle.text.specs.declared.Line.{Line}
 use Rattle.text.specs.declared.Line.the-variants.{Empty, Knot, Hole, Refused}

@@ -10,7 +10,7 @@ use lib.IntN.{ℤ}
 use lib.ListN.{length, length-set}
 use borrow.Author.Tests.{ltb-true}
 use Rattle.split.specs.Parts.{lines}
-use Rattle.text.specs.Hole.{hole}
+use Rattle.holes.specs.Hole.{hole}
 use Rattle.text.specs.Sheet.{too-long, is-hole, line, most, refused, with-knot, taken, goes-on, read, longest, sheet}
 use Rattle.text.specs.declared.Line.{Line}
 use Rattle.text.specs.declared.Line.the-variants.{Empty, Knot, Hole, Refused}

@@ -1,2 +1,1 @@
-pub mod Hole
 pub mod Sheet

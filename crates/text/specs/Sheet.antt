@@ -15,7 +15,7 @@ use Rattle.numeral.specs.declared.Ordinate.the-variants.{Given, Hole as Missing
 use Rattle.text.specs.declared.Line.{Line}
 use Rattle.text.specs.declared.Line.the-variants.{Empty, Knot, Hole, Refused}
 use Rattle.text.specs.declared.Sheet.{Sheet}
-use Rattle.text.specs.Hole.{hole}
+use Rattle.holes.specs.Hole.{hole}
 
 abbrev pub too-few : ℕ
 too-few = 4

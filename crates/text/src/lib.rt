@@ -7,9 +7,6 @@ ghost use Prim.Native.Nat.{_<_};
 ghost use Rattle.split.specs.Parts.{words};
 ghost use Rattle.text.specs.Sheet.{blamed-by, blamed, knot, line-by, line, most, refused, with-knot, taken, sheet};
 
-// The ordinate that is the mark of a hole.
-const MARK: i16 = -32768;
-
 // What a line is.
 pub enum Line {
     Empty,
@@ -165,7 +162,7 @@ impl Sheet {
             Line::Knot(x, y) => self.with_knot(line, x, y),
             Line::Hole(x) => {
                 if mends {
-                    return self.with_knot(line, x, MARK);
+                    return self.with_knot(line, x, holes::MARK);
                 }
                 Sheet::refused(Sheet::HOLE, line)
             }
