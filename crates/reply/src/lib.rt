@@ -1,12 +1,16 @@
-// What the text of a sheet is answered with: the listing of its fit and the card's bytes, or a complaint; apart from files.
+// What the text of a sheet is answered with: the listing of its fit and the card's bytes, or a complaint; and a sheet with holes, mended before it is fitted. Apart from files.
+use mend::Plan;
 use text::Sheet;
 ghost use mathlib.Core.Path.{_≡_};
+ghost use mathlib.Core.Bool.{true};
 ghost use mathlib.Core.List.{[]};
 ghost use Prim.Native.Nat.{_≤_};
 ghost use lib.ListN.{length, getD};
 ghost use Rattle.knots.specs.Lent.{lent};
-ghost use Rattle.text.specs.Sheet.{blamed as blamed-word};
 ghost use Rattle.words.specs.Said.{wrong-line};
+ghost use Rattle.text.specs.Sheet.{sheet, blamed as blamed-word};
+ghost use Rattle.mend.specs.Promise.{plan-of};
+ghost use Rattle.reply.specs.Mending.{mend-reply, mending-reply, knots-plan, text-plan, Mends};
 ghost use Rattle.reply.specs.Reply.{of-a-knot, blamed, refusing, reply-of, fit-reply, reply, Answers};
 
 // The numbers whose place is a knot.
@@ -150,6 +154,103 @@ pub fn answer(text: &[u8], to: &mut [u8], card: &mut [u8]) -> Answered
     fit_lists(
         &minutes[..n],
         &ordinates[..n],
+        &mut slopes[..n],
+        &mut curvatures[..n],
+        lines,
+        to,
+        card,
+    )
+}
+
+// The answer, the changes at the front of the plan's arrays, and at the front of an array the line of each knot.
+pub struct Mending {
+    pub answered: Answered,
+    pub plan: Plan,
+    pub lines: [u32; Sheet::MOST],
+}
+
+impl Mending {
+    // A place for each hole: no card has more knots.
+    const ROOM: usize = 64;
+}
+
+fn no_changes() -> Plan
+    ensures { λ r. ⌜ r ≡ plan-of 0 0 [] ⌝ }
+{
+    Plan {
+        number: 0,
+        place: 0,
+        count: 0,
+        places: [0; Mending::ROOM],
+        olds: [0; Mending::ROOM],
+        news: [0; Mending::ROOM],
+    }
+}
+
+fn mend_lists(
+    minutes: &[u16],
+    ordinates: &mut [i16],
+    slopes: &mut [i32],
+    curvatures: &mut [i32],
+    lines: [u32; Sheet::MOST],
+    to: &mut [u8],
+    card: &mut [u8],
+) -> Mending
+    requires { ⌜ (length (now ordinates) ≡ length (now minutes)) × (length (now slopes) ≡ length (now minutes)) × (length (now curvatures) ≡ length (now minutes)) ⌝ }
+    requires { ⌜ (length (now minutes) ≤ 65) × (4096 ≤ length (now to)) ⌝ }
+    ensures { λ r. ⌜
+        Mends
+        (mend-reply (now (minutes .entry)) (now (ordinates .entry)) (now (slopes .entry)) (now (curvatures .entry)) lines (now (card .entry)))
+        (knots-plan (now (minutes .entry)) (now (ordinates .entry)) (now (slopes .entry)) (now (curvatures .entry)))
+        lines (now (to .entry)) (now (to .exit)) (now (card .exit)) r ⌝ }
+{
+    let plan = mend::mend(minutes, ordinates, slopes, curvatures, Mending::ROOM);
+    let answered = told(
+        plan.number,
+        plan.place,
+        minutes,
+        ordinates,
+        slopes,
+        curvatures,
+        0,
+        0,
+        lines,
+        to,
+        card,
+    );
+    Mending {
+        answered,
+        plan,
+        lines,
+    }
+}
+
+// The knots of a sheet, its holes filled, and their fit, between free ends.
+pub fn mend(text: &[u8], to: &mut [u8], card: &mut [u8]) -> Mending
+    requires { ⌜ 4096 ≤ length (now to) ⌝ }
+    ensures { λ r. ⌜
+        Mends (mending-reply (now (text .entry)) (now (card .entry))) (text-plan (now (text .entry))) (sheet true (now (text .entry)) .lines)
+        (now (to .entry)) (now (to .exit)) (now (card .exit)) r ⌝ }
+{
+    let sheet = Sheet::read(text, true);
+    let n = sheet.knots;
+    let minutes = sheet.minutes;
+    let mut ordinates = sheet.ordinates;
+    let lines = sheet.lines;
+    if sheet.wrong != 0 {
+        let answered = complain(text, sheet.wrong, sheet.line, to);
+        let plan = no_changes();
+        return Mending {
+            answered,
+            plan,
+            lines,
+        };
+    }
+    let mut slopes = [0i32; Sheet::MOST];
+    let mut curvatures = [0i32; Sheet::MOST];
+    mend_lists(
+        &minutes[..n],
+        &mut ordinates[..n],
         &mut slopes[..n],
         &mut curvatures[..n],
         lines,
