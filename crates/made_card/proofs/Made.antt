@@ -1,4 +1,4 @@
--- Where a sheet's text is answered with the status '0', into a buffer with room for the largest card, a card is made.
+-- Where a sheet's text is answered with the status '0', into a buffer with room for the largest card, a card is made; so too where it is mended.
 -- Assumes nothing.
 use Prim.Native.Nat.{ℕ, _≤_}
 use mathlib.Core.Path.{_≡_, refl, sym, ap, subst, _∙_}
@@ -13,6 +13,7 @@ use borrow.Author.Tests.{eqb-true}
 use Rattle.answer.specs.Answer.{Answer, given, accepted, number, place}
 use Rattle.answer.specs.Lent.{lent-after}
 use Rattle.answer.proofs.Never.{Never, given-never}
+use Rattle.answer.proofs.Steps.{next-accepts}
 use Rattle.curve.specs.Kind.{quintic}
 use Rattle.curve.specs.Card.{Card, knots}
 use Rattle.curve.specs.Steps.{size}
@@ -29,15 +30,20 @@ use Rattle.fit.specs.Fit.{card-of, fit}
 use Rattle.fit.specs.Promise.{slopes-after, curvatures-after}
 use Rattle.fit.proofs.Card.{its-card, accepted-card}
 use Rattle.fit.proofs.Numbered.{fit-numbered}
+use Rattle.holes.specs.Hole.{mended}
+use Rattle.mend.specs.Order.{mend}
+use Rattle.mend.specs.Promise.{ordinates-after}
 use Rattle.listing.specs.Text.{listing}
 use Rattle.text.specs.Sheet.{sheet, most}
 use Rattle.text.proofs.Room.{roomy}
 use Rattle.reply.specs.Reply.{Reply, refusing, listing-of, reply-of, ToKnots, fit-reply, text-reply, reply}
+use Rattle.reply.specs.Mending.{room as places, mend-reply, mending-reply}
 use Rattle.kaihveto.specs.Types.{Minutes}
 use Rattle.demands.proofs.Numbered.{says}
 use Rattle.demands.proofs.FitToCard.{fitted-is-written, fitted-is-read}
-use Rattle.made_card.specs.Made.{sheet-fit, made-bytes, Made}
+use Rattle.made_card.specs.Made.{sheet-fit, sheet-mend, made-bytes, Made}
 use Rattle.made_card.proofs.Typed.{minutes-front, minutes-typed}
+use Rattle.made_card.proofs.Numbered.{mend-numbered}
 
 -- a refusal's status is '1', so that behind a '0' the test held
 done-by : (test : Bool) (done : Reply) (words card : List ℕ) → cond test done (refusing words card) .status ≡ 48 → (test ≡ true) × (cond test done (refusing words card) ≡ done)
@@ -124,5 +130,16 @@ module _ (mends : Bool) (s buffer : List ℕ) where
       let m = made-of (fit xs ys k k) (fit-numbered xs ys Free Free k k given-never) xs ys k k (λ c g. g) (λ g. lent xs ys (slopes-after g zeros) (curvatures-after g zeros) 0 0) refl (sheet mends s .lines) buffer (ap (λ r. r .status) (sym is) ∙ e) room typed in
       subst (λ k. Made (fit xs ys k k) (text-reply mends fit-reply s buffer)) as-many (subst (λ r. Made (fit xs ys k k) r) (sym is) m)
 
+  mend-made : size (quintic .most-knots) ≤ length buffer → text-reply mends mend-reply s buffer .status ≡ 48 → Made (mend xs ys n n places) (text-reply mends mend-reply s buffer)
+  unfolding card-of mend
+  mend-made room e =
+      let k = length zeros in
+      let is = knots-answered mend-reply e in
+      let m = made-of (mend xs ys k k places) (mend-numbered xs ys k k places) xs (mended xs ys) k k (λ c g. next-accepts _ _ g) (λ g. lent xs (ordinates-after g ys) (slopes-after g zeros) (curvatures-after g zeros) 0 0) refl (sheet mends s .lines) buffer (ap (λ r. r .status) (sym is) ∙ e) room typed in
+      subst (λ k. Made (mend xs ys k k places) (text-reply mends mend-reply s buffer)) as-many (subst (λ r. Made (mend xs ys k k places) r) (sym is) m)
+
 pub made-card : (s buffer : List ℕ) → size (quintic .most-knots) ≤ length buffer → reply s buffer .status ≡ 48 → Made (sheet-fit s) (reply s buffer)
 made-card s buffer = fit-made false s buffer
+
+pub mended-card : (s buffer : List ℕ) → size (quintic .most-knots) ≤ length buffer → mending-reply s buffer .status ≡ 48 → Made (sheet-mend s) (mending-reply s buffer)
+mended-card s buffer = mend-made true s buffer

@@ -134,6 +134,10 @@ use Rattle.reply.specs.declared.Answered.{Answered}
 use Rattle.reply.specs.Reply.{Reply, Answers}
 use Rattle.reply.proofs.line_of.Reads as reply-line
 use Rattle.reply.proofs.answer.Reads as reply-answer
+use Rattle.mend.specs.declared.Plan.{Plan}
+use Rattle.reply.specs.declared.Mending.{Mending}
+use Rattle.reply.specs.Mending.{Mends as Mends-text}
+use Rattle.reply.proofs.mend.Reads as reply-mend
 use Rattle.card_listing.proofs.list_card.Reads as list-card
 use Rattle.kaihveto.proofs.kaihveto_mean.Reads as c-mean
 use Rattle.kaihveto.proofs.kaihveto_fit.Reads as c-fit
@@ -250,6 +254,18 @@ module _ {K A S : Type 0} (reply : K → A → Reply) (to : K → A → List ℕ
     (λ κs a x y s t p q. one-put (p .said) (q .said) .0),
     λ κs a x y s t p q. one-outcome (p .card) (q .card),
   )
+
+module _ {K A S : Type 0} (reply : K → A → Reply) (plan : K → A → Plan) (lines to : K → A → List ℕ) (to′ card′ : S → List ℕ) where
+  abbrev Mending-text : K → A → Mending → S → Type 0
+  Mending-text κs a x s = Mends-text (reply κs a) (plan κs a) (lines κs a) (to κs a) (to′ s) (card′ s) x
+
+  mending-text : Once Mending-text × Lent Mending-text to′ × Lent Mending-text card′
+  mending-text =
+      let answers = answering reply to to′ card′ in (
+        (λ κs a x y s t p q. three (λ r c l. record { answered = r; plan = c; lines = l }) (answers .0 κs a (x .answered) (y .answered) s t (p .answers) (q .answers)) (one-outcome (p .changes) (q .changes)) (one-outcome (p .lines) (q .lines))),
+        (λ κs a x y s t p q. answers .1 κs a (x .answered) (y .answered) s t (p .answers) (q .answers)),
+        λ κs a x y s t p q. answers .2 κs a (x .answered) (y .answered) s t (p .answers) (q .answers),
+      )
 
 -- ---- answers, rounding, the mean
 
@@ -424,6 +440,9 @@ line-told = equation _ _
 -- the buffers for what is said and for the card are the second and the third
 pub reply : Once reply-answer.Post × Lent reply-answer.Post (λ s. now (s .1 .0)) × Lent reply-answer.Post (λ s. now (s .1 .1 .0))
 reply = answering _ _ _ _
+
+pub reply-mended : Once reply-mend.Post × Lent reply-mend.Post (λ s. now (s .1 .0)) × Lent reply-mend.Post (λ s. now (s .1 .1 .0))
+reply-mended = mending-text _ _ _ _ _ _
 
 -- the text is the second
 pub card-listed : Once list-card.Post × Lent list-card.Post (λ s. now (s .1 .0))
