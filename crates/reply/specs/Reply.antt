@@ -7,7 +7,7 @@ use mathlib.Core.List.{List}
 use lib.Dec.{ltb, eqb}
 use lib.IntN.{ℤ, pos}
 use lib.ListN.{length, take, getD, replicate}
-use Rattle.answer.specs.Answer.{Answer, number, place}
+use Rattle.answer.specs.Answer.{number, place}
 use Rattle.answer.specs.Lent.{lent-after}
 use Rattle.curve.specs.Kind.{quintic}
 use Rattle.curve.specs.Card.{Card, knots}

@@ -1,7 +1,6 @@
 -- `reply::told` meets its contract, by the number. Assumes nothing.
 use mathlib.Core.Path.{_≡_, refl, ap}
 use native.Mathlib.Omega.{arith}
-use denote.Ref.{now}
 use borrow.Author.Needs.{needs}
 use Rattle.reply.specs.Reply.{refusing, listing-of}
 use Rattle.reply.proofs.Replies.{answers-as, replies-refused, replies-done}

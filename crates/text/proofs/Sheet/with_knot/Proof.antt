@@ -1,5 +1,4 @@
 -- `text::Sheet::with_knot` meets its contract. Assumes nothing.
-use mathlib.Core.Path.{refl}
 use borrow.Author.Needs.{needs}
 use Rattle.text.specs.Sheet.{with-knot}
 use Rattle.text.proofs.Sheet.with_knot.Statement.{statement}
