@@ -15,6 +15,10 @@ ghost use Rattle.card.specs.Promise.{lists, Reads};
 ghost use Rattle.table.specs.Promise.{columns, Tables};
 ghost use Rattle.writer.specs.Promise.{Writes};
 ghost use Rattle.refit.specs.Promise.{Refits};
+ghost use Rattle.holes.specs.Hole.{mended};
+ghost use Rattle.mend.specs.Changes.{changes as changes-of};
+ghost use Rattle.mend.specs.Order.{mend};
+ghost use Rattle.mend.specs.Promise.{Mends};
 ghost use Rattle.kaihveto.specs.Types.{Minutes};
 
 // The mean of a log that starts at a minute: 16, 12, 13.
@@ -156,4 +160,25 @@ pub extern "C" fn kaihveto_refit(
     ensures { λ r. ⌜ Refits (now (card .entry)) (now (slopes .entry)) (now (curvatures .entry)) (now (slopes .exit)) (now (curvatures .exit)) r ⌝ }
 {
     refit::refit(card, slopes, curvatures)
+}
+
+// A sheet with holes mended and fitted between free ends, with the changes at the front of a list: 3, 1, 2; per knot 4, 5, 6; 17; 18; 8; 9; 10.
+#[no_mangle]
+pub extern "C" fn kaihveto_mend<'a>(
+    minutes: &'a [u16],
+    ordinates: &'a mut [i16],
+    slopes: &'a mut [i32],
+    curvatures: &'a mut [i32],
+    changes: &'a mut [mend::Change],
+) -> mend::Mended
+    ensures { λ r. ⌜
+        Mends
+        (mend (now (minutes .entry)) (now (ordinates .entry)) (length (now (slopes .entry))) (length (now (curvatures .entry))) (length (now (changes .entry))))
+        (changes-of (now (ordinates .entry)) (mended (now (minutes .entry)) (now (ordinates .entry))))
+        (now (ordinates .entry)) (now (slopes .entry)) (now (curvatures .entry)) (now (changes .entry))
+        (now (ordinates .exit)) (now (slopes .exit)) (now (curvatures .exit)) (now (changes .exit)) r ⌝ }
+{
+    let plan = mend::mend(minutes, ordinates, slopes, curvatures, changes.len());
+    mend::fill(changes, plan.len(), plan);
+    plan.answer()
 }

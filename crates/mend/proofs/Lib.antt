@@ -1,3 +1,4 @@
 pub mod Columns
 pub mod Bridges
 pub mod Planning
+pub mod Mending

@@ -62,3 +62,7 @@ pub record Plans (mend : Answer Card) (cs : List Change) (ys ms Ms ys′ ms′ M
 -- the change that a plan has at a place
 abbrev pub planned : Plan → ℕ → Change
 planned p j = record { place = getD (p .places) j 0; old = getD (p .olds) j (pos 0); new = getD (p .news) j (pos 0) }
+
+-- what a plan says without its changes
+abbrev pub told : Plan → Mended
+told p = record { number = p .number; place = p .place; count = p .count }

@@ -7,6 +7,7 @@ ghost use Prim.Native.Nat.{_≤_, _<_};
 ghost use lib.ListN.{length};
 ghost use Rattle.answer.specs.Answer.{_then_};
 ghost use Rattle.answer.specs.Judge.{verdict-of};
+ghost use Rattle.front.specs.Front.{over};
 ghost use Rattle.rows.specs.declared.End.the-variants.{Free};
 ghost use Rattle.fit.specs.Fit.{fit-between};
 ghost use Rattle.fit.specs.Promise.{Alike};
@@ -14,7 +15,7 @@ ghost use Rattle.holes.specs.Hole.{hole-at, mended};
 ghost use Rattle.holes.specs.Needs.{most};
 ghost use Rattle.mend.specs.Changes.{change-at, changes};
 ghost use Rattle.mend.specs.Order.{mendable, mend};
-ghost use Rattle.mend.specs.Promise.{no-change, plan-of, planned, Plans};
+ghost use Rattle.mend.specs.Promise.{no-change, plan-of, planned, told, Plans};
 use answer::Judged;
 use holes::Fill;
 use holes::MOST;
@@ -145,6 +146,24 @@ impl Plan {
         let new = news[j];
         Change { place, old, new }
     }
+
+    // How many changes it has.
+    pub fn len(self) -> usize
+        ensures { λ r. ⌜ r ≡ self .count ⌝ }
+    {
+        self.count as usize
+    }
+
+    // What it says without the changes.
+    pub fn answer(self) -> Mended
+        ensures { λ r. ⌜ r ≡ told self ⌝ }
+    {
+        Mended {
+            number: self.number,
+            place: self.place,
+            count: self.count,
+        }
+    }
 }
 
 // ---- the sheet
@@ -212,11 +231,11 @@ fn mend_alike(
 }
 
 // 3, 1, 2; per knot 4, 5, 6; 17; 18, where there are more holes than places; 8; 9; 10.
-pub fn mend(
-    minutes: &[u16],
-    ordinates: &mut [i16],
-    slopes: &mut [i32],
-    curvatures: &mut [i32],
+pub fn mend<'a>(
+    minutes: &'a [u16],
+    ordinates: &'a mut [i16],
+    slopes: &'a mut [i32],
+    curvatures: &'a mut [i32],
     room: usize,
 ) -> Plan
     ensures { λ r. ⌜
@@ -235,5 +254,19 @@ pub fn mend(
     match sized {
         Judged::Accepted => mend_alike(minutes, ordinates, slopes, curvatures, room),
         Judged::Refused(number, place) => Plan::refused(number, place),
+    }
+}
+
+// ---- the list
+
+// A plan's first n changes to the front of a list: walked by hand, since no list of structs is covered.
+pub fn fill(list: &mut [Change], n: usize, plan: Plan)
+    requires { ⌜ (n ≤ length (now list)) × (n ≤ most) ⌝ }
+    ensures { λ _. ⌜ now (list .exit) ≡ over (planned plan) n (now (list .entry)) ⌝ }
+{
+    let mut j: usize = 0;
+    while j < n {
+        list[j] = plan.at(j);
+        j += 1;
     }
 }

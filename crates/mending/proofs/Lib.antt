@@ -1,0 +1,4 @@
+pub mod Changed
+pub mod PutBack
+pub mod Afterwards
+pub mod Examples
