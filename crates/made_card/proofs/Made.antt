@@ -1,7 +1,7 @@
--- Where a sheet's text is answered with the status '0', into a buffer with room for the largest card, a card is made.
+-- Where a sheet's text is answered with the status '0', into a buffer with room for the largest card, a card is made; so too where it is mended.
 -- Assumes nothing.
 use Prim.Native.Nat.{ℕ, _≤_}
-use mathlib.Core.Path.{_≡_, refl, sym, ap, _∙_}
+use mathlib.Core.Path.{_≡_, refl, sym, ap, subst, _∙_}
 use mathlib.Core.Bool.{Bool, true, false, cond}
 use mathlib.Core.List.{List, _++_}
 use native.Mathlib.Omega.{arith}
@@ -10,13 +10,16 @@ use lib.IntN.{ℤ, pos}
 use lib.ListN.{length, take, drop, replicate}
 use lib.Seq.{take-at, length-take-le}
 use borrow.Author.Tests.{eqb-true}
-use Rattle.answer.specs.Answer.{Answer, given, accepted, number}
+use Rattle.answer.specs.Answer.{Answer, given, accepted, number, place}
 use Rattle.answer.specs.Lent.{lent-after}
-use Rattle.answer.proofs.Never.{given-never}
+use Rattle.answer.proofs.Never.{Never, given-never}
+use Rattle.answer.proofs.Steps.{next-accepts}
 use Rattle.curve.specs.Kind.{quintic}
 use Rattle.curve.specs.Card.{Card, knots}
 use Rattle.curve.specs.Steps.{size}
+use Rattle.curve.specs.Orders.{write-order}
 use Rattle.curve.proofs.Accepted.{good}
+use Rattle.knots.specs.Lent.{lent}
 use Rattle.rows.specs.declared.End.the-variants.{Free}
 use Rattle.card_bytes.specs.Bytes.{quintic-head, bytes-of}
 use Rattle.card_bytes.specs.Held
@@ -24,16 +27,23 @@ use Rattle.card_bytes.proofs.Sizes.{length-card}
 use Rattle.card.specs.Answers.{own}
 use Rattle.writer.specs.Promise.{written}
 use Rattle.fit.specs.Fit.{card-of, fit}
+use Rattle.fit.specs.Promise.{slopes-after, curvatures-after}
 use Rattle.fit.proofs.Card.{its-card, accepted-card}
 use Rattle.fit.proofs.Numbered.{fit-numbered}
+use Rattle.holes.specs.Hole.{mended}
+use Rattle.mend.specs.Order.{mend}
+use Rattle.mend.specs.Promise.{ordinates-after}
 use Rattle.listing.specs.Text.{listing}
 use Rattle.text.specs.Sheet.{sheet, most}
 use Rattle.text.proofs.Room.{roomy}
-use Rattle.reply.specs.Reply.{Reply, refusing, listing-of, reply-of, fit-reply, reply}
+use Rattle.reply.specs.Reply.{Reply, refusing, listing-of, reply-of, ToKnots, fit-reply, text-reply, reply}
+use Rattle.reply.specs.Mending.{room as places, mend-reply, mending-reply}
+use Rattle.kaihveto.specs.Types.{Minutes}
 use Rattle.demands.proofs.Numbered.{says}
 use Rattle.demands.proofs.FitToCard.{fitted-is-written, fitted-is-read}
-use Rattle.made_card.specs.Made.{made-bytes, Made}
+use Rattle.made_card.specs.Made.{sheet-fit, sheet-mend, made-bytes, Made}
 use Rattle.made_card.proofs.Typed.{minutes-front, minutes-typed}
+use Rattle.made_card.proofs.Numbered.{mend-numbered}
 
 -- a refusal's status is '1', so that behind a '0' the test held
 done-by : (test : Bool) (done : Reply) (words card : List ℕ) → cond test done (refusing words card) .status ≡ 48 → (test ≡ true) × (cond test done (refusing words card) ≡ done)
@@ -41,64 +51,95 @@ unfolding refusing
 done-by true done words card e = (refl, refl)
 done-by false done words card e = absurd (omega arith)
 
-module _ (xs : List ℕ) (ys ms Ms : List ℤ) (lines card : List ℕ) where
-  abbrev f : Answer Card
-  f = fit xs ys (length ms) (length Ms)
-
+-- f is a fit of these knots behind further checks; the lists hold its card where it gives one
+module _ (f : Answer Card) (numbers : Never 0 f) (xs : List ℕ) (ys : List ℤ) (ms Ms : ℕ) (is-fit : (c : Card) → f ≡ given c → fit xs ys ms Ms ≡ given c)
+    (held : Answer Card → Card) (holds : held (given (card-of xs ys Free Free)) ≡ card-of xs ys Free Free) (lines buffer : List ℕ) where
   abbrev c : Card
   c = card-of xs ys Free Free
 
+  abbrev its-reply : Answer Card → Reply
+  its-reply g = reply-of (number g) (place g) (held g) lines buffer
+
   -- the reply with this card, where the writer accepts it
   abbrev with-card : Reply
-  with-card = record { words = listing 0 0 xs ys (c .slopes) (c .curvatures); status = 48; card = bytes-of quintic-head c ++ drop (length (bytes-of quintic-head c)) card; size = size (knots c) }
+  with-card = record { words = listing 0 0 xs ys (c .slopes) (c .curvatures); status = 48; card = bytes-of quintic-head c ++ drop (length (bytes-of quintic-head c)) buffer; size = size (knots c) }
 
-  module _ (e : fit-reply xs ys ms Ms lines card .status ≡ 48) where
+  module _ (e : its-reply f .status ≡ 48) where
     -- 0 is no refusal's number
-    fit-gives : f ≡ given c
+    gives : f ≡ given c
     unfolding reply-of
-    fit-gives =
-        let g = says f (fit-numbered xs ys Free Free (length ms) (length Ms) given-never) refl refl .accepts (eqb-true (number f) 0 (done-by _ _ _ _ e .0)) in
-        g .is ∙ ap given (its-card xs ys Free Free _ _ accepted (g .is))
+    gives =
+        let g = says f numbers refl refl .accepts (eqb-true (number f) 0 (done-by _ _ _ _ e .0)) in
+        g .is ∙ ap given (its-card xs ys Free Free ms Ms accepted (is-fit (g .what) (g .is)))
 
-    replies : size (quintic .most-knots) ≤ length card → fit-reply xs ys ms Ms lines card ≡ with-card
-    unfolding reply-of number listing-of card-of lent-after written
-    replies room =
-        let many = good quintic c (accepted-card xs ys Free Free _ _ accepted fit-gives) .many in
-        let w = fitted-is-written xs ys Free Free _ _ accepted fit-gives (length card) (omega arith) in
-        ap (λ g. reply-of g xs ys ms Ms lines card) fit-gives ∙ rw w
+    module _ (room : size (quintic .most-knots) ≤ length buffer) where
+      writes : write-order quintic c (length buffer) ≡ accepted
+      writes =
+          let many = good quintic c (accepted-card xs ys Free Free ms Ms accepted (is-fit c gives)) .many in
+          fitted-is-written xs ys Free Free ms Ms accepted (is-fit c gives) (length buffer) (omega arith)
 
-module _ (s buffer : List ℕ) where
+      replies : its-reply f ≡ with-card
+      unfolding reply-of number place listing-of card-of lent-after written
+      replies = ap its-reply gives ∙ ap (λ d. reply-of 0 0 d lines buffer) holds ∙ rw writes
+
+      pub made-of : Minutes xs → Made f (its-reply f)
+      unfolding card-of
+      made-of typed =
+          let returned = fitted-is-read xs ys Free Free ms Ms accepted (is-fit c gives) typed in
+          let bytes = ap made-bytes replies ∙ take-at (bytes-of quintic-head c) _ (size (knots c)) (length-card quintic-head c) in
+          record {
+            made = c;
+            fitted = gives;
+            size = ap (λ r. r .size) replies;
+            bytes = bytes;
+            tested = ap own bytes ∙ returned .accepts;
+            held = ap Held.card-of bytes ∙ returned .card;
+            said = ap (λ r. r .words) replies;
+          }
+
+-- ---- of a text
+
+module _ (mends : Bool) (s buffer : List ℕ) where
   abbrev n : ℕ
-  n = sheet s .knots
+  n = sheet mends s .knots
 
   abbrev xs : List ℕ
-  xs = take n (sheet s .minutes)
+  xs = take n (sheet mends s .minutes)
 
   abbrev ys : List ℤ
-  ys = take n (sheet s .ordinates)
+  ys = take n (sheet mends s .ordinates)
 
   abbrev zeros : List ℤ
   zeros = take n (replicate most (pos 0))
 
   as-many : length zeros ≡ n
-  as-many = length-take-le n (replicate most (pos 0)) (roomy s .few)
+  as-many = length-take-le n (replicate most (pos 0)) (roomy mends s .few)
 
-  pub made-card : size (quintic .most-knots) ≤ length buffer → reply s buffer .status ≡ 48 → Made s (reply s buffer)
-  unfolding reply card-of
-  made-card room e =
-      let c = card-of xs ys Free Free in
-      let is = done-by (eqb (sheet s .wrong) 0) _ _ _ e .1 in
-      let e′ = ap (λ r. r .status) (sym is) ∙ e in
-      let r = is ∙ replies xs ys zeros zeros (sheet s .lines) buffer e′ room in
-      let g = ap (λ k. fit xs ys k k) (sym as-many) ∙ fit-gives xs ys zeros zeros (sheet s .lines) buffer e′ in
-      let returned = fitted-is-read xs ys Free Free n n accepted g (minutes-front n (sheet s .minutes) (minutes-typed s)) in
-      let bytes = ap made-bytes r ∙ take-at (bytes-of quintic-head c) _ (size (knots c)) (length-card quintic-head c) in
-      record {
-        made = c;
-        fitted = g;
-        size = ap (λ r. r .size) r;
-        bytes = bytes;
-        tested = ap own bytes ∙ returned .accepts;
-        held = ap Held.card-of bytes ∙ returned .card;
-        said = ap (λ r. r .words) r;
-      }
+  typed : Minutes xs
+  typed = minutes-front n (sheet mends s .minutes) (minutes-typed mends s)
+
+  knots-answered : (to-knots : ToKnots) → text-reply mends to-knots s buffer .status ≡ 48 → text-reply mends to-knots s buffer ≡ to-knots xs ys zeros zeros (sheet mends s .lines) buffer
+  unfolding text-reply
+  knots-answered to-knots e = done-by (eqb (sheet mends s .wrong) 0) _ _ _ e .1
+
+  fit-made : size (quintic .most-knots) ≤ length buffer → text-reply mends fit-reply s buffer .status ≡ 48 → Made (fit xs ys n n) (text-reply mends fit-reply s buffer)
+  unfolding card-of
+  fit-made room e =
+      let k = length zeros in
+      let is = knots-answered fit-reply e in
+      let m = made-of (fit xs ys k k) (fit-numbered xs ys Free Free k k given-never) xs ys k k (λ c g. g) (λ g. lent xs ys (slopes-after g zeros) (curvatures-after g zeros) 0 0) refl (sheet mends s .lines) buffer (ap (λ r. r .status) (sym is) ∙ e) room typed in
+      subst (λ k. Made (fit xs ys k k) (text-reply mends fit-reply s buffer)) as-many (subst (λ r. Made (fit xs ys k k) r) (sym is) m)
+
+  mend-made : size (quintic .most-knots) ≤ length buffer → text-reply mends mend-reply s buffer .status ≡ 48 → Made (mend xs ys n n places) (text-reply mends mend-reply s buffer)
+  unfolding card-of mend
+  mend-made room e =
+      let k = length zeros in
+      let is = knots-answered mend-reply e in
+      let m = made-of (mend xs ys k k places) (mend-numbered xs ys k k places) xs (mended xs ys) k k (λ c g. next-accepts _ _ g) (λ g. lent xs (ordinates-after g ys) (slopes-after g zeros) (curvatures-after g zeros) 0 0) refl (sheet mends s .lines) buffer (ap (λ r. r .status) (sym is) ∙ e) room typed in
+      subst (λ k. Made (mend xs ys k k places) (text-reply mends mend-reply s buffer)) as-many (subst (λ r. Made (mend xs ys k k places) r) (sym is) m)
+
+pub made-card : (s buffer : List ℕ) → size (quintic .most-knots) ≤ length buffer → reply s buffer .status ≡ 48 → Made (sheet-fit s) (reply s buffer)
+made-card s buffer = fit-made false s buffer
+
+pub mended-card : (s buffer : List ℕ) → size (quintic .most-knots) ≤ length buffer → mending-reply s buffer .status ≡ 48 → Made (sheet-mend s) (mending-reply s buffer)
+mended-card s buffer = mend-made true s buffer

@@ -1,4 +1,4 @@
--- A number has one spelling: a word that is read as a number, or as an ordinate, is that number in decimal.
+-- A number has one spelling: a word that is read as a number, or as an ordinate, is that number in decimal; and a hole is a minus alone.
 -- Assumes nothing.
 use Prim.Native.Nat.{ℕ, zero, suc, _+_, _-_, _*_, _/_, _%_, _^_, _≤_, _<_}
 use mathlib.Core.Path.{_≡_, refl, sym, ap, _∙_}
@@ -7,19 +7,20 @@ use mathlib.Core.List.{List, [], _∷_, _++_}
 use native.Mathlib.Nat.{pow-suc}
 use native.Mathlib.Omega.{arith}
 use native.Mathlib.Decide.{decLt}
-use lib.Dec.{ltb, lit<}
+use lib.Dec.{ltb, eqb, lit<}
 use lib.IntN.{ℤ, pos, negsuc}
 use lib.ListN.{length, take, drop, getD}
-use lib.Seq.{take-suc, take-all}
+use lib.Seq.{take-suc, take-all, drop-length}
 use borrow.Author.Tests.{lt-ltb, le-ltb, ltb-true, ltb-false, eqb-true, eqb-false}
 use Rattle.decimal.specs.Decimal.{digits, places, decimal, value-from, value, minus, signed}
 use Rattle.split.specs.Parts.{marks, stop}
 use Rattle.split.specs.declared.Mark.the-variants.{NoDigit}
 use Rattle.split.proofs.Stops.{before-stop}
-use Rattle.numeral.specs.Number.{starts, all-digits, padded, too-large, not-whole, leading-zero, at-most, natural, above, below, ordinate}
+use Rattle.numeral.specs.Number.{starts, all-digits, padded, too-large, not-whole, leading-zero, at-most, natural, above, below, lone-minus, ordinate}
 use Rattle.numeral.specs.declared.Number.{Number}
 use Rattle.numeral.specs.declared.Number.the-variants.{Whole, Bad}
-use Rattle.numeral.specs.declared.Ordinate.the-variants.{Given}
+use Rattle.numeral.specs.declared.Ordinate.{Ordinate}
+use Rattle.numeral.specs.declared.Ordinate.the-variants.{Given, Hole}
 use Rattle.numeral.proofs.Values.{second, digits-from, grows}
 use Rattle.decimal.proofs.Digits.{value-append}
 
@@ -154,10 +155,42 @@ spelled-below w (Bad wrong) e g = let z : _≡_ {A = ℕ} 0 1 = cc in absurd (om
 spelled-below w (Whole zero) e g = let z : _≡_ {A = ℕ} 0 1 = cc in absurd (omega arith)
 spelled-below w (Whole (suc n)) e {z} g = let i : negsuc n ≡ z = cc in rw (← i) (ap (λ ds. minus ∷ ds) (one-spelling 32768 w (lit< tt) e))
 
-pub one-ordinate : (w : List ℕ) {z : ℤ} → ordinate w ≡ Given z → w ≡ signed z
-unfolding ordinate
-one-ordinate w {z} e = go (starts minus w) refl e
-  where
-    go : (b : Bool) → starts minus w ≡ b → cond b (below (natural 32768 (drop 1 w))) (above (natural 32767 w)) ≡ Given z → w ≡ signed z
-    go true t e = behind-minus w t ∙ spelled-below (drop 1 w) (natural 32768 (drop 1 w)) refl e
-    go false t e = spelled-above w (natural 32767 w) refl e
+-- no number is a hole
+above-no-hole : (a : Number) → (above a ≡ Hole) → ⊥
+unfolding above
+above-no-hole (Bad wrong) e = let z : _≡_ {A = ℕ} 0 1 = cc in absurd (omega arith)
+above-no-hole (Whole n) e = let z : _≡_ {A = ℕ} 0 1 = cc in absurd (omega arith)
+
+below-no-hole : (a : Number) → (below a ≡ Hole) → ⊥
+unfolding below
+below-no-hole (Bad wrong) e = let z : _≡_ {A = ℕ} 0 1 = cc in absurd (omega arith)
+below-no-hole (Whole zero) e = let z : _≡_ {A = ℕ} 0 1 = cc in absurd (omega arith)
+below-no-hole (Whole (suc n)) e = let z : _≡_ {A = ℕ} 0 1 = cc in absurd (omega arith)
+
+module _ (w : List ℕ) where
+  -- by the sign
+  abbrev number-of : Bool → Bool → Ordinate
+  number-of lone b = cond lone Hole (cond b (below (natural 32768 (drop 1 w))) (above (natural 32767 w)))
+
+  pub one-ordinate : {z : ℤ} → ordinate w ≡ Given z → w ≡ signed z
+  unfolding ordinate
+  one-ordinate {z} e = go (lone-minus w) (starts minus w) refl e
+    where
+      go : (lone b : Bool) → starts minus w ≡ b → number-of lone b ≡ Given z → w ≡ signed z
+      go true b t e = let z : _≡_ {A = ℕ} 0 1 = cc in absurd (omega arith)
+      go false true t e = behind-minus w t ∙ spelled-below (drop 1 w) (natural 32768 (drop 1 w)) refl e
+      go false false t e = spelled-above w (natural 32767 w) refl e
+
+  is-lone : lone-minus w ≡ true → w ≡ minus ∷ []
+  is-lone e =
+      let l : length w ≡ 1 = eqb-true (length w) 1 (first-and (eqb (length w) 1) _ e) in
+      behind-minus w (second (eqb (length w) 1) _ e) ∙ ap (λ v. minus ∷ v) (rw l at (drop-length w))
+
+  pub one-hole : ordinate w ≡ Hole → w ≡ minus ∷ []
+  unfolding ordinate
+  one-hole e = go (lone-minus w) refl (starts minus w) e
+    where
+      go : (lone : Bool) → lone-minus w ≡ lone → (b : Bool) → number-of lone b ≡ Hole → w ≡ minus ∷ []
+      go true l b e = is-lone l
+      go false l true e = absurd (below-no-hole (natural 32768 (drop 1 w)) e)
+      go false l false e = absurd (above-no-hole (natural 32767 w) e)

@@ -6,7 +6,7 @@ use mathlib.Core.Bool.{Bool, true, false, cond, and-false}
 use mathlib.Core.List.{List, [], _∷_, _++_}
 use native.Mathlib.Nat.{pow-suc}
 use native.Mathlib.Omega.{arith}
-use lib.Dec.{ltb}
+use lib.Dec.{ltb, eqb}
 use lib.IntN.{ℤ, pos, negsuc}
 use lib.ListN.{length, length-append}
 use borrow.Author.Tests.{ltb-true, ltb-false, lt-ltb, le-ltb, eq-eqb, ne-eqb}
@@ -15,7 +15,7 @@ use mir.Syntax.{w16}
 use mir.Val.{SFits}
 use Rattle.decimal.proofs.Digits.{decimal-one, value-digits}
 use Rattle.split.specs.Parts.{marks, stop}
-use Rattle.numeral.specs.Number.{starts, all-digits, padded, at-most, natural, above, below, ordinate}
+use Rattle.numeral.specs.Number.{starts, all-digits, padded, at-most, natural, above, below, lone-minus, ordinate}
 use Rattle.split.specs.declared.Mark.{Mark}
 use Rattle.split.specs.declared.Mark.the-variants.{NoDigit}
 use Rattle.split.proofs.Unmarked.{unmarked-more}
@@ -87,11 +87,19 @@ module _ (n : ℕ) (h : n < 10 ^ places) where
   unfolding at-most
   decimal-read most l = sym (is-value most (decimal n) all-of-them not-padded) ∙ rw (value-digits places n h, le-ltb most n l)
 
+-- a minus with digits behind it, or none at all, is no hole
+not-lone : (z : ℤ) → SFits w16 z → lone-minus (signed z) ≡ false
+unfolding signed starts
+not-lone (pos n) f =
+    let l : n < 32768 = f .sfits in
+    rw (first-digit minus places n (omega arith) (omega arith) (omega arith)) (and-false (eqb (length (decimal n)) 1))
+not-lone (negsuc n) f = rw (ne-eqb (suc (length (decimal (suc n)))) 1 (λ e. omega (arith, some-digit 19 (suc n))))
+
 pub signed-read : (z : ℤ) → SFits w16 z → ordinate (signed z) ≡ Given z
 unfolding signed ordinate above below starts
 signed-read (pos n) f =
     let l : n < 32768 = f .sfits in
-    rw (first-digit minus places n (omega arith) (omega arith) (omega arith), decimal-read n (omega arith) 32767 (omega arith))
+    rw (not-lone (pos n) f, first-digit minus places n (omega arith) (omega arith) (omega arith), decimal-read n (omega arith) 32767 (omega arith))
 signed-read (negsuc n) f =
     let l : n < 32768 = f .sfits in
-    rw (decimal-read (suc n) (omega arith) 32768 (omega arith))
+    rw (not-lone (negsuc n) f, decimal-read (suc n) (omega arith) 32768 (omega arith))

@@ -1,4 +1,5 @@
--- Whole numbers in decimal: digits alone, none of them a zero in front, a minus before an ordinate below zero; and what is wrong with another word.
+-- Whole numbers in decimal: digits alone, none of them a zero in front, a minus before an ordinate below zero, or alone where there is a hole; and what is wrong with
+-- another word.
 -- Assumes nothing.
 use Prim.Native.Nat.{ℕ, zero, suc}
 use mathlib.Core.Bool.{Bool, false, cond, _&&_}
@@ -13,7 +14,7 @@ use Rattle.split.specs.declared.Mark.the-variants.{NoDigit, Hidden}
 use Rattle.numeral.specs.declared.Number.{Number}
 use Rattle.numeral.specs.declared.Number.the-variants.{Whole, Bad}
 use Rattle.numeral.specs.declared.Ordinate.{Ordinate}
-use Rattle.numeral.specs.declared.Ordinate.the-variants.{Given, Wrong}
+use Rattle.numeral.specs.declared.Ordinate.the-variants.{Given, Hole, Wrong}
 
 abbrev pub not-whole : ℕ
 not-whole = 1
@@ -55,5 +56,9 @@ below (Whole zero) = Wrong leading-zero
 below (Whole (suc n)) = Given (negsuc n)
 below (Bad wrong) = Wrong wrong
 
+abbrev pub lone-minus : List ℕ → Bool
+lone-minus w = eqb (length w) 1 && starts minus w
+
+-- a hole is a minus alone
 unfoldable pub ordinate : List ℕ → Ordinate
-ordinate w = cond (starts minus w) (below (natural 32768 (drop 1 w))) (above (natural 32767 w))
+ordinate w = cond (lone-minus w) Hole (cond (starts minus w) (below (natural 32768 (drop 1 w))) (above (natural 32767 w)))

@@ -3,7 +3,7 @@ use split::Mark;
 ghost use mathlib.Core.Path.{_≡_};
 ghost use mathlib.Core.Bool.{true};
 ghost use Rattle.decimal.specs.Decimal.{value};
-ghost use Rattle.numeral.specs.Number.{plain, starts, all-digits, padded, at-most, natural, above, below, ordinate};
+ghost use Rattle.numeral.specs.Number.{plain, starts, all-digits, padded, at-most, natural, above, below, lone-minus, ordinate};
 
 fn starts(word: &[u8], byte: u8) -> bool
     ensures { λ r. ⌜ r ≡ starts byte (now (word .entry)) ⌝ }
@@ -76,9 +76,17 @@ impl Number {
     }
 }
 
-// What stands in place of an ordinate.
+// A minus and nothing behind it.
+fn lone_minus(word: &[u8]) -> bool
+    ensures { λ r. ⌜ r ≡ lone-minus (now (word .entry)) ⌝ }
+{
+    word.len() == 1 && starts(word, b'-')
+}
+
+// What stands in place of an ordinate; a minus alone is a hole.
 pub enum Ordinate {
     Given(i16),
+    Hole,
     Wrong(u32),
 }
 
@@ -110,6 +118,9 @@ impl Ordinate {
     pub fn of(word: &[u8]) -> Ordinate
         ensures { λ r. ⌜ r ≡ ordinate (now (word .entry)) ⌝ }
     {
+        if lone_minus(word) {
+            return Ordinate::Hole;
+        }
         if starts(word, b'-') {
             return Ordinate::below(split::from(word, 1));
         }

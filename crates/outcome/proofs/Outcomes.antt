@@ -129,9 +129,15 @@ use Rattle.text.proofs.Sheet.read.Reads as text-read
 use Rattle.words.proofs.put_sentence.Reads as put-sentence
 use Rattle.words.proofs.refused_line.Reads as refusal-said
 use Rattle.words.proofs.wrong_line.Reads as wrong-said
+use Rattle.words.proofs.mended_line.Reads as mended-said
 use Rattle.reply.specs.declared.Answered.{Answered}
 use Rattle.reply.specs.Reply.{Reply, Answers}
+use Rattle.reply.proofs.line_of.Reads as reply-line
 use Rattle.reply.proofs.answer.Reads as reply-answer
+use Rattle.mend.specs.declared.Plan.{Plan}
+use Rattle.reply.specs.declared.Mending.{Mending}
+use Rattle.reply.specs.Mending.{Mends as Mends-text}
+use Rattle.reply.proofs.mend.Reads as reply-mend
 use Rattle.card_listing.proofs.list_card.Reads as list-card
 use Rattle.holes.proofs.is_hole.Reads as is-hole
 use Rattle.holes.proofs.one_at.Reads as one-at
@@ -287,6 +293,18 @@ module _ {K A S : Type 0} (reply : K → A → Reply) (to : K → A → List ℕ
     (λ κs a x y s t p q. one-put (p .said) (q .said) .0),
     λ κs a x y s t p q. one-outcome (p .card) (q .card),
   )
+
+module _ {K A S : Type 0} (reply : K → A → Reply) (plan : K → A → Plan) (lines to : K → A → List ℕ) (to′ card′ : S → List ℕ) where
+  abbrev Mending-text : K → A → Mending → S → Type 0
+  Mending-text κs a x s = Mends-text (reply κs a) (plan κs a) (lines κs a) (to κs a) (to′ s) (card′ s) x
+
+  mending-text : Once Mending-text × Lent Mending-text to′ × Lent Mending-text card′
+  mending-text =
+      let answers = answering reply to to′ card′ in (
+        (λ κs a x y s t p q. three (λ r c l. record { answered = r; plan = c; lines = l }) (answers .0 κs a (x .answered) (y .answered) s t (p .answers) (q .answers)) (one-outcome (p .changes) (q .changes)) (one-outcome (p .lines) (q .lines))),
+        (λ κs a x y s t p q. answers .1 κs a (x .answered) (y .answered) s t (p .answers) (q .answers)),
+        λ κs a x y s t p q. answers .2 κs a (x .answered) (y .answered) s t (p .answers) (q .answers),
+      )
 
 -- ---- answers, rounding, the mean
 
@@ -468,9 +486,18 @@ refusal-told = putting _ _ _ _
 pub wrong-told : Once wrong-said.Post × Lent wrong-said.Post (λ s. now (s .0))
 wrong-told = putting _ _ _ _
 
+pub mended-told : Once mended-said.Post × Lent mended-said.Post (λ s. now (s .0))
+mended-told = putting _ _ _ _
+
+pub line-told : Once reply-line.Post
+line-told = equation _ _
+
 -- the buffers for what is said and for the card are the second and the third
 pub reply : Once reply-answer.Post × Lent reply-answer.Post (λ s. now (s .1 .0)) × Lent reply-answer.Post (λ s. now (s .1 .1 .0))
 reply = answering _ _ _ _
+
+pub reply-mended : Once reply-mend.Post × Lent reply-mend.Post (λ s. now (s .1 .0)) × Lent reply-mend.Post (λ s. now (s .1 .1 .0))
+reply-mended = mending-text _ _ _ _ _ _
 
 -- the text is the second
 pub card-listed : Once list-card.Post × Lent list-card.Post (λ s. now (s .1 .0))

@@ -2,12 +2,12 @@
 -- Assumes nothing.
 use Prim.Native.Nat.{ℕ}
 use mathlib.Core.Path.{_≡_}
-use mathlib.Core.Bool.{Bool, cond, _&&_}
+use mathlib.Core.Bool.{Bool, false, cond, _&&_, _||_}
 use mathlib.Core.List.{List}
 use lib.Dec.{ltb, eqb}
 use lib.IntN.{ℤ, pos}
 use lib.ListN.{length, take, getD, replicate}
-use Rattle.answer.specs.Answer.{Answer, number, place}
+use Rattle.answer.specs.Answer.{number, place}
 use Rattle.answer.specs.Lent.{lent-after}
 use Rattle.curve.specs.Kind.{quintic}
 use Rattle.curve.specs.Card.{Card, knots}
@@ -24,9 +24,9 @@ use Rattle.text.specs.Sheet.{most, sheet, blamed as blamed-word}
 use Rattle.words.specs.Said.{refused-line, wrong-line}
 use Rattle.reply.specs.declared.Answered.{Answered}
 
--- the place of 4 to 10 is a knot
+-- the place of 4 to 10 and of 17 is a knot
 abbrev pub of-a-knot : ℕ → Bool
-of-a-knot number = ltb 3 number && ltb number 11
+of-a-knot number = eqb number 17 || (ltb 3 number && ltb number 11)
 
 -- the line of the knot that is refused; 0 where no knot is
 unfoldable pub blamed : List ℕ → ℕ → ℕ → ℕ
@@ -42,28 +42,36 @@ pub record Reply : Type 0 where
 unfoldable pub refusing : List ℕ → List ℕ → Reply
 refusing words card = record { words = words; status = 49; card = card; size = 0 }
 
--- the listing, and the card with free ends
-unfoldable pub listing-of : (xs : List ℕ) (ys ms Ms : List ℤ) → List ℕ → Reply
-listing-of xs ys ms Ms card =
-    let c = lent xs ys ms Ms 0 0 in
+-- the listing of a card, and its bytes
+unfoldable pub listing-of : Card → List ℕ → Reply
+listing-of c card =
     let order = write-order quintic c (length card) in
-    record { words = listing 0 0 xs ys ms Ms; status = 48; card = lent-after order (bytes-of quintic-head c) card; size = written order (size (knots c)) .bytes }
+    record { words = listing 0 0 (c .minutes) (c .ordinates) (c .slopes) (c .curvatures); status = 48; card = lent-after order (bytes-of quintic-head c) card; size = written order (size (knots c)) .bytes }
 
--- of a fit between these knots, which stand on these lines, and whose slopes and curvatures go over two lent lists
-unfoldable pub reply-of : Answer Card → (xs : List ℕ) (ys ms Ms : List ℤ) (lines card : List ℕ) → Reply
-reply-of f xs ys ms Ms lines card =
-    cond (eqb (number f) 0) (listing-of xs ys (slopes-after f ms) (curvatures-after f Ms) card)
-    (refusing (refused-line (number f) (place f) (blamed lines (number f) (place f))) card)
+-- to knots that are refused with a number at a place, or to the card that was made of them; they stand on these lines
+unfoldable pub reply-of : (number place : ℕ) → Card → (lines card : List ℕ) → Reply
+reply-of number place c lines card = cond (eqb number 0) (listing-of c card) (refusing (refused-line number place (blamed lines number place)) card)
 
-abbrev pub fit-reply : (xs : List ℕ) (ys ms Ms : List ℤ) (lines card : List ℕ) → Reply
-fit-reply xs ys ms Ms lines card = reply-of (fit xs ys (length ms) (length Ms)) xs ys ms Ms lines card
+-- to knots by their minutes and ordinates, with two lent lists for the slopes and curvatures, the lines on which they stand and the buffer for the card
+abbrev pub ToKnots : Type 0
+ToKnots = (xs : List ℕ) (ys ms Ms : List ℤ) (lines card : List ℕ) → Reply
 
-unfoldable pub reply : List ℕ → List ℕ → Reply
-reply s card =
-    let a = sheet s in
+-- the fit's; its ends are free
+abbrev pub fit-reply : ToKnots
+fit-reply xs ys ms Ms lines card =
+    let f = fit xs ys (length ms) (length Ms) in
+    reply-of (number f) (place f) (lent xs ys (slopes-after f ms) (curvatures-after f Ms) 0 0) lines card
+
+-- to a text: what is wrong in it, or what its knots are answered with
+unfoldable pub text-reply : (mends : Bool) → ToKnots → (text card : List ℕ) → Reply
+text-reply mends to-knots s card =
+    let a = sheet mends s in
     let n = a .knots in
     let zeros = take n (replicate most (pos 0)) in
-    cond (eqb (a .wrong) 0) (fit-reply (take n (a .minutes)) (take n (a .ordinates)) zeros zeros (a .lines) card) (refusing (wrong-line (a .wrong) (a .line) (blamed-word s (a .line))) card)
+    cond (eqb (a .wrong) 0) (to-knots (take n (a .minutes)) (take n (a .ordinates)) zeros zeros (a .lines) card) (refusing (wrong-line (a .wrong) (a .line) (blamed-word s (a .line))) card)
+
+abbrev pub reply : (text card : List ℕ) → Reply
+reply = text-reply false fit-reply
 
 -- the reply was given: its words were put into a buffer, its card stands in another
 pub record Answers (p : Reply) (to to′ card′ : List ℕ) (r : Answered) : Type 0 where

@@ -1,16 +1,18 @@
--- Sheets as they are written: a comment, an empty line, a tab, CR LF; and each thing that can be wrong, with its line. Computed from the definitions; assumes nothing.
+-- Sheets as they are written: a comment, an empty line, a tab, CR LF, a hole; and each thing that can be wrong, with its line. Computed from the definitions; assumes nothing.
 use Prim.Native.Nat.{ℕ}
 use Prim.Native.String.{String}
 use mathlib.Core.Path.{_≡_, refl}
+use mathlib.Core.Bool.{true, false}
 use mathlib.Core.List.{List, [], _∷_, _++_}
 use lib.IntN.{pos, negsuc}
 use lib.ListN.{take}
 use Rattle.decimal.specs.Decimal.{spelled, value-from}
 use Rattle.split.specs.Parts.{marks, stop, split, some, words}
 use Rattle.numeral.specs.Number.{not-whole, leading-zero, too-large, starts, at-most, natural, above, below, ordinate}
-use Rattle.text.specs.Sheet.{too-few, too-many, knot-by, line-by, line, blamed-of, blamed-by, blamed, refused, taken, goes-on, read, sheet}
+use Rattle.holes.specs.Hole.{hole}
+use Rattle.text.specs.Sheet.{too-few, too-many, is-hole, knot-by, line-by, line, blamed-of, blamed-by, blamed, refused, with-knot, taken, goes-on, read, sheet}
 use Rattle.text.specs.declared.Line.{Line}
-use Rattle.text.specs.declared.Line.the-variants.{Empty, Knot, Refused}
+use Rattle.text.specs.declared.Line.the-variants.{Empty, Knot, Hole, Refused}
 
 abbrev written : List String → List ℕ
 written [] = []
@@ -23,20 +25,31 @@ abbrev a-line : String → Line
 a-line s = line (spelled s)
 
 pub sheets :
-    (sheet night .wrong ≡ 0) × (sheet night .knots ≡ 3) × (take 4 (sheet night .minutes) ≡ 0 ∷ 8 ∷ 16 ∷ 0 ∷ [])
-    × (take 4 (sheet night .ordinates) ≡ pos 500 ∷ negsuc 39 ∷ pos 0 ∷ pos 0 ∷ []) × (take 4 (sheet night .lines) ≡ 2 ∷ 4 ∷ 5 ∷ 0 ∷ [])
-    × (sheet (written ("0 0" ∷ "# 1 2 3" ∷ "050 3" ∷ [])) ≡ refused leading-zero 3) × (sheet [] ≡ refused 0 0)
-unfolding spelled value-from marks stop split some words starts at-most natural above below ordinate knot-by line-by line refused taken goes-on read sheet
+    (sheet false night .wrong ≡ 0) × (sheet false night .knots ≡ 3) × (take 4 (sheet false night .minutes) ≡ 0 ∷ 8 ∷ 16 ∷ 0 ∷ [])
+    × (take 4 (sheet false night .ordinates) ≡ pos 500 ∷ negsuc 39 ∷ pos 0 ∷ pos 0 ∷ []) × (take 4 (sheet false night .lines) ≡ 2 ∷ 4 ∷ 5 ∷ 0 ∷ [])
+    × (sheet false (written ("0 0" ∷ "# 1 2 3" ∷ "050 3" ∷ [])) ≡ refused leading-zero 3) × (sheet false [] ≡ refused 0 0)
+unfolding spelled value-from marks stop split some words starts at-most natural above below ordinate knot-by line-by line refused with-knot taken goes-on read sheet
 sheets = (refl, refl, refl, refl, refl, refl, refl)
+
+abbrev broken : List ℕ
+broken = written ("0 500" ∷ "8 - # dead" ∷ "16 0" ∷ [])
+
+-- a hole is wrong where the sheet is not to be mended, and the word for which it is refused is the minus; where it is, the hole has the mark, as the mark itself has that somebody types
+pub holes :
+    (sheet false broken ≡ refused is-hole 2) × (blamed broken 2 ≡ spelled "-") × (sheet true broken .wrong ≡ 0) × (sheet true broken .knots ≡ 3)
+    × (take 4 (sheet true broken .ordinates) ≡ pos 500 ∷ hole ∷ pos 0 ∷ pos 0 ∷ []) × (take 4 (sheet true broken .lines) ≡ 1 ∷ 2 ∷ 3 ∷ 0 ∷ [])
+    × (sheet true (written ("0 -32768" ∷ [])) ≡ sheet true (written ("0 -" ∷ []))) × (sheet true night ≡ sheet false night)
+unfolding spelled value-from marks stop split some words starts at-most natural above below ordinate knot-by line-by line blamed-of blamed-by blamed refused with-knot taken goes-on read sheet
+holes = (refl, refl, refl, refl, refl, refl, refl, refl)
 
 pub lines :
     (a-line "5.5 3" ≡ Refused not-whole) × (a-line "0x10 3" ≡ Refused not-whole) × (a-line "1e3 3" ≡ Refused not-whole) × (a-line "-1 3" ≡ Refused not-whole)
-    × (a-line "1 -" ≡ Refused not-whole) × (a-line "1 -0" ≡ Refused leading-zero) × (a-line "1 00" ≡ Refused leading-zero) × (a-line "0 -32768" ≡ Knot 0 (negsuc 32767))
+    × (a-line "1 -" ≡ Hole 1) × (a-line "- 1" ≡ Refused not-whole) × (a-line "1 --" ≡ Refused not-whole) × (a-line "1 - -" ≡ Refused too-many) × (a-line "1 -0" ≡ Refused leading-zero) × (a-line "1 00" ≡ Refused leading-zero) × (a-line "0 -32768" ≡ Knot 0 (negsuc 32767))
     × (a-line "0 32768" ≡ Refused too-large) × (a-line "65535 0" ≡ Knot 65535 (pos 0)) × (a-line "65536 0" ≡ Refused too-large)
     × (a-line "18446744073709551616 0" ≡ Refused too-large) × (a-line "7" ≡ Refused too-few) × (a-line "1 2 3" ≡ Refused too-many)
     × (line (spelled "7" ++ (9 ∷ spelled "8") ++ (13 ∷ [])) ≡ Knot 7 (pos 8)) × (a-line " " ≡ Empty)
 unfolding spelled value-from marks stop split some words starts at-most natural above below ordinate knot-by line-by line
-lines = (refl, refl, refl, refl, refl, refl, refl, refl, refl, refl, refl, refl, refl, refl, refl, refl)
+lines = (refl, refl, refl, refl, refl, refl, refl, refl, refl, refl, refl, refl, refl, refl, refl, refl, refl, refl, refl)
 
 abbrev blamed-in : String → List ℕ
 blamed-in s = blamed (written ("0 0" ∷ s ∷ [])) 2

@@ -2,7 +2,7 @@
 -- Assumes nothing.
 use Prim.Native.Nat.{ℕ, _+_, _≤_, _<_}
 use mathlib.Core.Path.{_≡_, refl, sym, _∙_}
-use mathlib.Core.Bool.{true, false, and-false}
+use mathlib.Core.Bool.{Bool, true, false, and-false}
 use mathlib.Core.List.{List, [], _∷_}
 use native.Mathlib.Omega.{arith}
 use native.Mathlib.Numerals.{add-one}
@@ -32,40 +32,40 @@ module _ (a : Sheet) where
   full l = rw (le-ltb (a .knots) most l) (and-false (eqb (a .wrong) 0))
 
 -- the loop's invariant: what is left of the text decides
-pub record Reading (s : List ℕ) (a : Sheet) (n at : ℕ) : Type 0 where
-  pub decides : read a n (from s at) ≡ read (refused 0 0) 1 (lines s)
+pub record Reading (mends : Bool) (s : List ℕ) (a : Sheet) (n at : ℕ) : Type 0 where
+  pub decides : read mends a n (from s at) ≡ read mends (refused 0 0) 1 (lines s)
   pub few : n ≤ at + 1
   pub within : at ≤ length s + 1
 
-pub reading-starts : (s : List ℕ) → Reading s (refused 0 0) 1 0
-reading-starts s = record { decides = rw (le-leb 0 (length s) (omega arith)); few = omega arith; within = omega arith }
+pub reading-starts : (mends : Bool) (s : List ℕ) → Reading mends s (refused 0 0) 1 0
+reading-starts mends s = record { decides = rw (le-leb 0 (length s) (omega arith)); few = omega arith; within = omega arith }
 
-stays : (a : Sheet) (n : ℕ) (ls : List (List ℕ)) → goes-on a ≡ false → read a n ls ≡ a
+stays : (mends : Bool) (a : Sheet) (n : ℕ) (ls : List (List ℕ)) → goes-on a ≡ false → read mends a n ls ≡ a
 unfolding read
-stays a n [] e = refl
-stays a n (l ∷ ls) e = rw e
+stays mends a n [] e = refl
+stays mends a n (l ∷ ls) e = rw e
 
-module _ {s : List ℕ} {a : Sheet} {n at : ℕ} (r : Reading s a n at) (short : length s ≤ longest) where
-  whole : read (refused 0 0) 1 (lines s) ≡ sheet s
+module _ {mends : Bool} {s : List ℕ} {a : Sheet} {n at : ℕ} (r : Reading mends s a n at) (short : length s ≤ longest) where
+  whole : read mends (refused 0 0) 1 (lines s) ≡ sheet mends s
   unfolding sheet
   whole = rw (le-ltb longest (length s) short)
 
-  pub reading-stops : goes-on a ≡ false → a ≡ sheet s
-  reading-stops e = sym (stays a n (from s at) e) ∙ r .decides ∙ whole
+  pub reading-stops : goes-on a ≡ false → a ≡ sheet mends s
+  reading-stops e = sym (stays mends a n (from s at) e) ∙ r .decides ∙ whole
 
-  pub reading-ends : length s < at → a ≡ sheet s
+  pub reading-ends : length s < at → a ≡ sheet mends s
   unfolding read
   reading-ends l = rw (lt-leb at (length s) l) at (r .decides) ∙ whole
 
-module _ {s : List ℕ} {a : Sheet} {n at : ℕ} (r : Reading s a n at) (g : goes-on a ≡ true) (h : at ≤ length s) where
+module _ {mends : Bool} {s : List ℕ} {a : Sheet} {n at : ℕ} (r : Reading mends s a n at) (g : goes-on a ≡ true) (h : at ≤ length s) where
   abbrev found : List ℕ
   found = part LineEnd s at h
 
-  step : read a n (from s at) ≡ read (taken a n (line found)) (n + 1) (from s (at + length found + 1))
+  step : read mends a n (from s at) ≡ read mends (taken mends a n (line found)) (n + 1) (from s (at + length found + 1))
   unfolding read
   step = rw (next-part LineEnd s at h, g, add-one n)
 
-  pub reading-goes-on : Reading s (taken a n (line found)) (n + 1) (at + length found + 1)
+  pub reading-goes-on : Reading mends s (taken mends a n (line found)) (n + 1) (at + length found + 1)
   reading-goes-on =
       record {
         decides = sym step ∙ r .decides;

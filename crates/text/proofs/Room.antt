@@ -6,12 +6,14 @@ use mathlib.Core.Bool.{Bool, true, false, cond}
 use mathlib.Core.List.{List, [], _∷_}
 use native.Mathlib.Omega.{arith}
 use lib.Dec.{ltb, eqb}
+use lib.IntN.{ℤ}
 use lib.ListN.{length, length-set}
 use borrow.Author.Tests.{ltb-true}
 use Rattle.split.specs.Parts.{lines}
-use Rattle.text.specs.Sheet.{too-long, line, most, refused, taken, goes-on, read, longest, sheet}
+use Rattle.holes.specs.Hole.{hole}
+use Rattle.text.specs.Sheet.{too-long, is-hole, line, most, refused, with-knot, taken, goes-on, read, longest, sheet}
 use Rattle.text.specs.declared.Line.{Line}
-use Rattle.text.specs.declared.Line.the-variants.{Empty, Knot, Refused}
+use Rattle.text.specs.declared.Line.the-variants.{Empty, Knot, Hole, Refused}
 use Rattle.text.specs.declared.Sheet.{Sheet}
 use Rattle.numeral.proofs.Values.{second}
 
@@ -25,11 +27,9 @@ roomy-refused : (wrong n : ℕ) → Roomy (refused wrong n)
 unfolding refused
 roomy-refused wrong n = record { few = omega arith; minutes = refl; ordinates = refl; lines = refl }
 
-roomy-taken : {a : Sheet} → Roomy a → a .knots < most → (n : ℕ) (l : Line) → Roomy (taken a n l)
-unfolding taken
-roomy-taken r h n Empty = r
-roomy-taken r h n (Refused wrong) = roomy-refused wrong n
-roomy-taken {a} r h n (Knot x y) =
+roomy-with-knot : {a : Sheet} → Roomy a → a .knots < most → (n x : ℕ) (y : ℤ) → Roomy (with-knot a n x y)
+unfolding with-knot
+roomy-with-knot {a} r h n x y =
     record {
       few = omega arith;
       minutes = length-set (a .minutes) (a .knots) x ∙ r .minutes;
@@ -41,19 +41,29 @@ has-room : (a : Sheet) → goes-on a ≡ true → a .knots < most
 unfolding goes-on
 has-room a e = ltb-true (a .knots) most (second (eqb (a .wrong) 0) _ e)
 
-roomy-read : {a : Sheet} → Roomy a → (n : ℕ) (ls : List (List ℕ)) → Roomy (read a n ls)
-unfolding read
-roomy-read r n [] = r
-roomy-read {a} r n (l ∷ ls) = go (goes-on a) refl (λ h. roomy-read (roomy-taken r (has-room a h) n (line l)) (suc n) ls)
-  where
-    go : (b : Bool) → goes-on a ≡ b → (goes-on a ≡ true → Roomy (read (taken a n (line l)) (suc n) ls)) → Roomy (cond b (read (taken a n (line l)) (suc n) ls) a)
-    go true e f = f e
-    go false e f = r
+roomy-taken : (mends : Bool) {a : Sheet} → Roomy a → a .knots < most → (n : ℕ) (l : Line) → Roomy (taken mends a n l)
+unfolding taken
+roomy-taken mends r h n Empty = r
+roomy-taken mends r h n (Refused wrong) = roomy-refused wrong n
+roomy-taken mends r h n (Knot x y) = roomy-with-knot r h n x y
+roomy-taken true r h n (Hole x) = roomy-with-knot r h n x hole
+roomy-taken false r h n (Hole x) = roomy-refused is-hole n
 
-pub roomy : (s : List ℕ) → Roomy (sheet s)
-unfolding sheet
-roomy s = go (ltb longest (length s))
-  where
-    go : (b : Bool) → Roomy (cond b (refused too-long 0) (read (refused 0 0) 1 (lines s)))
-    go true = roomy-refused too-long 0
-    go false = roomy-read (roomy-refused 0 0) 1 (lines s)
+module _ (mends : Bool) where
+  roomy-read : {a : Sheet} → Roomy a → (n : ℕ) (ls : List (List ℕ)) → Roomy (read mends a n ls)
+  unfolding read
+  roomy-read r n [] = r
+  roomy-read {a} r n (l ∷ ls) = go (goes-on a) refl (λ h. roomy-read (roomy-taken mends r (has-room a h) n (line l)) (suc n) ls)
+    where
+      go : (b : Bool) → goes-on a ≡ b → (goes-on a ≡ true → Roomy (read mends (taken mends a n (line l)) (suc n) ls))
+          → Roomy (cond b (read mends (taken mends a n (line l)) (suc n) ls) a)
+      go true e f = f e
+      go false e f = r
+
+  pub roomy : (s : List ℕ) → Roomy (sheet mends s)
+  unfolding sheet
+  roomy s = go (ltb longest (length s))
+    where
+      go : (b : Bool) → Roomy (cond b (refused too-long 0) (read mends (refused 0 0) 1 (lines s)))
+      go true = roomy-refused too-long 0
+      go false = roomy-read (roomy-refused 0 0) 1 (lines s)

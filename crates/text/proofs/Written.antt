@@ -1,4 +1,4 @@
--- A knot as the listing writes its first two numbers, minute and ordinate, is read as that knot; and a line that is a knot has these two words and no other.
+-- A knot as the listing writes its first two numbers, minute and ordinate, is read as that knot; a line that is a knot has these two words and no other, and one that is a hole its minute and a minus.
 -- Assumes nothing.
 use Prim.Native.Nat.{ℕ, suc, _+_, _≤_, _<_}
 use mathlib.Core.Path.{_≡_, refl, ap, _∙_}
@@ -22,11 +22,12 @@ use Rattle.numeral.specs.Number.{natural, ordinate}
 use Rattle.numeral.specs.declared.Number.{Number}
 use Rattle.numeral.specs.declared.Number.the-variants.{Whole, Bad}
 use Rattle.numeral.specs.declared.Ordinate.{Ordinate}
-use Rattle.numeral.specs.declared.Ordinate.the-variants.{Given, Wrong}
-use Rattle.numeral.proofs.OneSpelling.{one-spelling, one-ordinate}
+use Rattle.numeral.specs.declared.Ordinate.the-variants.{Given, Hole as Missing, Wrong}
+use Rattle.numeral.proofs.OneSpelling.{one-spelling, one-ordinate, one-hole}
 use Rattle.numeral.proofs.Spelled.{No-digits, digits-unmarked, some-digit, decimal-read, signed-read}
 use Rattle.text.specs.Sheet.{latest, knot-by, knot, line-by, line}
-use Rattle.text.specs.declared.Line.the-variants.{Knot}
+use Rattle.text.specs.declared.Line.{Line}
+use Rattle.text.specs.declared.Line.the-variants.{Empty, Knot, Hole, Refused}
 
 no-note : No-digits Note
 unfolding marks
@@ -70,24 +71,35 @@ line-read x y l f = rw (no-comment x y, its-words x y, decimal-read x (omega ari
 
 -- ---- the other way
 
-spelled-knot : (x y : List ℕ) {n : ℕ} {z : ℤ} → knot x y ≡ Knot n z → (x ≡ decimal n) × (y ≡ signed z)
+-- the words of a line by what it is
+abbrev Two : Line → List (List ℕ) → Type 0
+Two Empty ws = Unit {0}
+Two (Refused wrong) ws = Unit {0}
+Two (Knot n z) ws = ws ≡ decimal n ∷ signed z ∷ []
+Two (Hole n) ws = ws ≡ decimal n ∷ (minus ∷ []) ∷ []
+
+two-of-knot : (x y : List ℕ) → Two (knot x y) (x ∷ y ∷ [])
 unfolding knot-by
-spelled-knot x y {n} {z} e = go (natural latest x) refl (ordinate y) refl e
+two-of-knot x y = go (natural latest x) refl (ordinate y) refl
   where
-    go : (a : Number) → natural latest x ≡ a → (b : Ordinate) → ordinate y ≡ b → knot-by a b ≡ Knot n z → (x ≡ decimal n) × (y ≡ signed z)
-    go (Bad wrong) d b o e = let z : _≡_ {A = ℕ} 0 1 = cc in absurd (omega arith)
-    go (Whole m) d (Wrong wrong) o e = let z : _≡_ {A = ℕ} 0 1 = cc in absurd (omega arith)
-    go (Whole m) d (Given v) o e =
-        let i : m ≡ n = cc in
-        let j : v ≡ z = cc in
-        (rw i at (one-spelling latest x (lit< tt) d), rw j at (one-ordinate y o))
+    go : (a : Number) → natural latest x ≡ a → (b : Ordinate) → ordinate y ≡ b → Two (knot-by a b) (x ∷ y ∷ [])
+    go (Bad wrong) d b o = tt
+    go (Whole n) d (Wrong wrong) o = tt
+    go (Whole n) d Missing o = rw (one-spelling latest x (lit< tt) d, one-hole y o)
+    go (Whole n) d (Given z) o = rw (one-spelling latest x (lit< tt) d, one-ordinate y o)
+
+two-words : (l : List ℕ) → Two (line l) (words (bare l))
+unfolding line line-by
+two-words l = go (words (bare l))
+  where
+    go : (ws : List (List ℕ)) → Two (line-by ws) ws
+    go [] = tt
+    go (x ∷ []) = tt
+    go (x ∷ y ∷ []) = two-of-knot x y
+    go (x ∷ y ∷ v ∷ ws) = tt
 
 pub knot-is-two-words : (l : List ℕ) {n : ℕ} {z : ℤ} → line l ≡ Knot n z → words (bare l) ≡ decimal n ∷ signed z ∷ []
-unfolding line line-by
-knot-is-two-words l {n} {z} e = go (words (bare l)) e
-  where
-    go : (ws : List (List ℕ)) → line-by ws ≡ Knot n z → ws ≡ decimal n ∷ signed z ∷ []
-    go [] e = let z : _≡_ {A = ℕ} 0 1 = cc in absurd (omega arith)
-    go (x ∷ []) e = let z : _≡_ {A = ℕ} 0 1 = cc in absurd (omega arith)
-    go (x ∷ y ∷ []) e = let s = spelled-knot x y e in rw (s .0, s .1)
-    go (x ∷ y ∷ v ∷ ws) e = let z : _≡_ {A = ℕ} 0 1 = cc in absurd (omega arith)
+knot-is-two-words l e = rw e at (two-words l)
+
+pub hole-is-two-words : (l : List ℕ) {n : ℕ} → line l ≡ Hole n → words (bare l) ≡ decimal n ∷ (minus ∷ []) ∷ []
+hole-is-two-words l e = rw e at (two-words l)

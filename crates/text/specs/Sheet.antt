@@ -1,20 +1,21 @@
--- A sheet: its lines in order up to the first that is wrong, and no further than the 65th knot.
+-- A sheet: its lines in order up to the first that is wrong, and no further than the 65th knot. A hole is wrong, unless the sheet is to be mended.
 -- Assumes nothing.
 use Prim.Native.Nat.{ℕ, zero, suc, _+_}
 use mathlib.Core.Bool.{Bool, cond, _&&_}
 use mathlib.Core.List.{List, [], _∷_}
 use lib.Dec.{ltb, eqb}
-use lib.IntN.{pos}
+use lib.IntN.{ℤ, pos}
 use lib.ListN.{length, getD, set, replicate}
 use Rattle.split.specs.Parts.{lines, bare, words}
 use Rattle.numeral.specs.Number.{natural, ordinate}
 use Rattle.numeral.specs.declared.Number.{Number}
 use Rattle.numeral.specs.declared.Number.the-variants.{Whole, Bad}
 use Rattle.numeral.specs.declared.Ordinate.{Ordinate}
-use Rattle.numeral.specs.declared.Ordinate.the-variants.{Given, Wrong}
+use Rattle.numeral.specs.declared.Ordinate.the-variants.{Given, Hole as Missing, Wrong}
 use Rattle.text.specs.declared.Line.{Line}
-use Rattle.text.specs.declared.Line.the-variants.{Empty, Knot, Refused}
+use Rattle.text.specs.declared.Line.the-variants.{Empty, Knot, Hole, Refused}
 use Rattle.text.specs.declared.Sheet.{Sheet}
+use Rattle.holes.specs.Hole.{hole}
 
 abbrev pub too-few : ℕ
 too-few = 4
@@ -25,6 +26,10 @@ too-many = 5
 abbrev pub too-long : ℕ
 too-long = 6
 
+-- where the sheet is not to be mended
+abbrev pub is-hole : ℕ
+is-hole = 7
+
 -- the largest minute that can be written down
 abbrev pub latest : ℕ
 latest = 65535
@@ -33,6 +38,7 @@ latest = 65535
 unfoldable pub knot-by : Number → Ordinate → Line
 knot-by (Bad wrong) y = Refused wrong
 knot-by (Whole x) (Wrong wrong) = Refused wrong
+knot-by (Whole x) Missing = Hole x
 knot-by (Whole x) (Given y) = Knot x y
 
 abbrev pub knot : List ℕ → List ℕ → Line
@@ -47,7 +53,7 @@ line-by (x ∷ y ∷ z ∷ ws) = Refused too-many
 unfoldable pub line : List ℕ → Line
 line l = line-by (words (bare l))
 
--- the word for which a line is refused: the first that is no number, or the first too many
+-- the word for which a line is refused: the first that is no number or is a hole, or the first too many
 unfoldable pub blamed-of : Number → List ℕ → List ℕ → List ℕ
 blamed-of (Bad wrong) x y = x
 blamed-of (Whole n) x y = y
@@ -71,11 +77,9 @@ unfoldable pub refused : ℕ → ℕ → Sheet
 refused wrong n =
     record { wrong = wrong; line = n; knots = 0; minutes = replicate most 0; ordinates = replicate most (pos 0); lines = replicate most 0 }
 
--- line n is taken: a knot goes behind those that stand
-unfoldable pub taken : Sheet → ℕ → Line → Sheet
-taken s n Empty = s
-taken s n (Refused wrong) = refused wrong n
-taken s n (Knot x y) =
+-- a knot on line n goes behind those that stand
+unfoldable pub with-knot : Sheet → (n x : ℕ) → ℤ → Sheet
+with-knot s n x y =
     record {
       wrong = 0;
       line = 0;
@@ -85,16 +89,23 @@ taken s n (Knot x y) =
       lines = set (s .lines) (s .knots) n;
     }
 
+-- line n is taken; a hole is a knot with the mark for its ordinate where the sheet is to be mended, else it is wrong
+unfoldable pub taken : (mends : Bool) → Sheet → ℕ → Line → Sheet
+taken mends s n Empty = s
+taken mends s n (Refused wrong) = refused wrong n
+taken mends s n (Knot x y) = with-knot s n x y
+taken mends s n (Hole x) = cond mends (with-knot s n x hole) (refused is-hole n)
+
 unfoldable pub goes-on : Sheet → Bool
 goes-on s = eqb (s .wrong) 0 && ltb (s .knots) most
 
 -- the lines from line n on
-unfoldable pub read : Sheet → ℕ → List (List ℕ) → Sheet
-read s n [] = s
-read s n (l ∷ ls) = cond (goes-on s) (read (taken s n (line l)) (suc n) ls) s
+unfoldable pub read : (mends : Bool) → Sheet → ℕ → List (List ℕ) → Sheet
+read mends s n [] = s
+read mends s n (l ∷ ls) = cond (goes-on s) (read mends (taken mends s n (line l)) (suc n) ls) s
 
 abbrev pub longest : ℕ
 longest = 65535
 
-unfoldable pub sheet : List ℕ → Sheet
-sheet s = cond (ltb longest (length s)) (refused too-long 0) (read (refused 0 0) 1 (lines s))
+unfoldable pub sheet : (mends : Bool) → List ℕ → Sheet
+sheet mends s = cond (ltb longest (length s)) (refused too-long 0) (read mends (refused 0 0) 1 (lines s))

@@ -1,16 +1,17 @@
-// A sheet as text: a line is a knot, its minute and its ordinate. Any bytes, of any length, are answered.
+// A sheet as text: a line is a knot, its minute and its ordinate, or a hole in place of the ordinate. Any bytes, of any length, are answered.
 use numeral::Number;
 use numeral::Ordinate;
 use split::Mark;
 ghost use mathlib.Core.Path.{_≡_};
 ghost use Prim.Native.Nat.{_<_};
 ghost use Rattle.split.specs.Parts.{words};
-ghost use Rattle.text.specs.Sheet.{blamed-by, blamed, knot, line-by, line, most, refused, taken, sheet};
+ghost use Rattle.text.specs.Sheet.{blamed-by, blamed, knot, line-by, line, most, refused, with-knot, taken, sheet};
 
 // What a line is.
 pub enum Line {
     Empty,
     Knot(u16, i16),
+    Hole(u16),
     Refused(u32),
 }
 
@@ -29,6 +30,7 @@ impl Line {
             Number::Bad(wrong) => Line::Refused(wrong),
             Number::Whole(x) => match Ordinate::of(ordinate) {
                 Ordinate::Wrong(wrong) => Line::Refused(wrong),
+                Ordinate::Hole => Line::Hole(x as u16),
                 Ordinate::Given(y) => Line::Knot(x as u16, y),
             },
         }
@@ -113,6 +115,9 @@ impl Sheet {
 
     pub const TOO_LONG: u32 = 6;
 
+    // Where the sheet is not to be mended.
+    pub const HOLE: u32 = 7;
+
     fn refused(wrong: u32, line: u32) -> Sheet
         ensures { λ r. ⌜ r ≡ refused wrong line ⌝ }
     {
@@ -126,35 +131,47 @@ impl Sheet {
         }
     }
 
-    fn taken(self, line: u32, found: Line) -> Sheet
+    fn with_knot(self, line: u32, minute: u16, ordinate: i16) -> Sheet
         requires { ⌜ self .knots < most ⌝ }
-        ensures { λ r. ⌜ r ≡ taken self line found ⌝ }
+        ensures { λ r. ⌜ r ≡ with-knot self line minute ordinate ⌝ }
+    {
+        let knots = self.knots;
+        let mut minutes = self.minutes;
+        let mut ordinates = self.ordinates;
+        let mut lines = self.lines;
+        minutes[knots] = minute;
+        ordinates[knots] = ordinate;
+        lines[knots] = line;
+        Sheet {
+            wrong: 0,
+            line: 0,
+            knots: knots + 1,
+            minutes,
+            ordinates,
+            lines,
+        }
+    }
+
+    fn taken(self, mends: bool, line: u32, found: Line) -> Sheet
+        requires { ⌜ self .knots < most ⌝ }
+        ensures { λ r. ⌜ r ≡ taken mends self line found ⌝ }
     {
         match found {
             Line::Empty => self,
             Line::Refused(wrong) => Sheet::refused(wrong, line),
-            Line::Knot(x, y) => {
-                let knots = self.knots;
-                let mut minutes = self.minutes;
-                let mut ordinates = self.ordinates;
-                let mut lines = self.lines;
-                minutes[knots] = x;
-                ordinates[knots] = y;
-                lines[knots] = line;
-                Sheet {
-                    wrong: 0,
-                    line: 0,
-                    knots: knots + 1,
-                    minutes,
-                    ordinates,
-                    lines,
+            Line::Knot(x, y) => self.with_knot(line, x, y),
+            Line::Hole(x) => {
+                if mends {
+                    return self.with_knot(line, x, holes::MARK);
                 }
+                Sheet::refused(Sheet::HOLE, line)
             }
         }
     }
 
-    pub fn read(text: &[u8]) -> Sheet
-        ensures { λ r. ⌜ r ≡ sheet (now (text .entry)) ⌝ }
+    // A hole is taken, as a knot with the mark for its ordinate, only where the sheet is to be mended.
+    pub fn read(text: &[u8], mends: bool) -> Sheet
+        ensures { λ r. ⌜ r ≡ sheet mends (now (text .entry)) ⌝ }
     {
         if Sheet::LONGEST < text.len() {
             return Sheet::refused(Sheet::TOO_LONG, 0);
@@ -164,7 +181,7 @@ impl Sheet {
         let mut at: usize = 0;
         while sheet.wrong == 0 && sheet.knots < Sheet::MOST && at <= text.len() {
             let found = split::until(Mark::LineEnd, split::from(text, at));
-            sheet = sheet.taken(line, Line::of(found));
+            sheet = sheet.taken(mends, line, Line::of(found));
             line += 1;
             at = at + found.len() + 1;
         }

@@ -1,15 +1,16 @@
--- What the parts of a complaint are, and how long at most.
+-- What the parts of a complaint or of a mended knot's line are, and how long at most.
 -- Assumes nothing.
-use Prim.Native.Nat.{ℕ, _+_, _≤_}
+use Prim.Native.Nat.{ℕ, suc, _+_, _≤_}
 use mathlib.Core.Path.{_≡_, refl}
 use mathlib.Core.Bool.{Bool, true, false, cond, _&&_}
 use mathlib.Core.List.{List, [], _∷_, _++_}
 use native.Mathlib.Omega.{arith}
 use lib.Dec.{ltb, eqb}
+use lib.IntN.{ℤ, pos, negsuc}
 use lib.ListN.{length, length-append}
 use borrow.Author.Tests.{eq-eqb, ne-eqb, ltb-false}
 use Rattle.decimal.specs.Put.{Put}
-use Rattle.decimal.specs.Decimal.{spelled, worded}
+use Rattle.decimal.specs.Decimal.{spelled, places, decimal, worded, signed, field}
 use Rattle.decimal.proofs.Lengths.{length-worded}
 use Rattle.split.specs.Parts.{stop}
 use Rattle.split.specs.declared.Mark.the-variants.{Hidden}
@@ -101,3 +102,10 @@ length-plain word e = go (ltb 32 (length word)) refl e
     go : (l : Bool) → ltb 32 (length word) ≡ l → cond l false (ltb 0 (length word) && eqb (stop Hidden word) (length word)) ≡ true → length word ≤ 32
     go true t e = let z : _≡_ {A = ℕ} 0 1 = cc in absurd (omega arith)
     go false t e = ltb-false 32 (length word) t
+
+-- ---- any number, with the byte behind it
+
+pub length-any-field : (z : ℤ) (parting : ℕ) → length (field z parting) ≤ places + 2
+unfolding spelled signed field
+length-any-field (pos n) parting = omega (arith, length-append (decimal n) (parting ∷ []), length-worded "" n)
+length-any-field (negsuc n) parting = omega (arith, length-append (decimal (suc n)) (parting ∷ []), length-worded "" (suc n))

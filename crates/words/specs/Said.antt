@@ -1,11 +1,13 @@
--- What is said of a file behind its name: ":4: knot 2: refused 4: minute is ..", ":4: '5.5' is not ..", or ": refused 1: .." where no line is to blame.
+-- What is said of a file behind its name: ":4: knot 2: refused 4: minute is ..", ":4: '5.5' is not ..", or ": refused 1: .." where no line is to blame;
+-- and of a knot that was mended.
 -- Assumes nothing.
 use Prim.Native.Nat.{ℕ}
 use mathlib.Core.Bool.{cond}
 use mathlib.Core.List.{List, [], _∷_, _++_}
 use lib.Dec.{eqb}
+use lib.IntN.{ℤ}
 use lib.ListN.{length}
-use Rattle.decimal.specs.Decimal.{spelled, worded}
+use Rattle.decimal.specs.Decimal.{spelled, worded, field}
 use Rattle.numeral.specs.Number.{plain}
 use Rattle.words.specs.declared.Table.the-variants.{Refusals, Places, Wrongs}
 use Rattle.words.specs.Sentences.{sentence}
@@ -34,3 +36,7 @@ shown line word = cond (eqb line 0) (spelled "the text") (cond (plain word) (quo
 
 unfoldable pub wrong-line : (wrong line : ℕ) → List ℕ → List ℕ
 wrong-line wrong line word = at-line line ++ shown line word ++ spelled " " ++ sentence Wrongs wrong ++ (10 ∷ [])
+
+-- ":4: knot 1: hole, now 480", and the end of the line
+unfoldable pub mended-line : (line knot : ℕ) → (new : ℤ) → List ℕ
+mended-line line knot new = at-line line ++ worded "knot " knot ++ spelled ": hole, now " ++ field new 10

@@ -1,4 +1,4 @@
--- The sentences, each at the place of its number: document 01, "Numbers of refusal", with what to do about each; and what can be wrong in the text of a sheet (crate `text`).
+-- The sentences, each at the place of its number: document 01, "Numbers of refusal", and order 1's two, with what to do about each; and what can be wrong in the text of a sheet (crate `text`).
 -- README's table is this one. Assumes nothing.
 use Prim.Native.Nat.{ℕ}
 use Prim.Native.String.{String}
@@ -21,7 +21,7 @@ row what place remedy = record { what = what; place = place; remedy = remedy }
 abbrev pub no-refusal : Row
 no-refusal = row "" "" ""
 
--- 0 to 16; no refusal has a number from 17 to 25; 26
+-- 0 to 18; no refusal has a number from 19 to 25; 26
 abbrev pub refusals : List Row
 refusals =
     (no-refusal
@@ -41,8 +41,10 @@ refusals =
     ∷ row "record is cut short, of the wrong kind or length, or bytes follow the end" "byte" "the file is damaged there, or is another kind of file"
     ∷ row "code of this end (0 left, 1 right) is not 0, 1 or 2" "end" "the card is damaged or comes from a newer program, or the calling program gave a wrong code"
     ∷ row "log has not 1 to 60 bytes" "" "cut a longer log to one hour, leave out an empty one"
+    ∷ row "hole has no sound knot on one side" "knot" "no line can be laid to a hole before the first sound knot or behind the last: leave that knot out, or give it a number"
+    ∷ row "list of changes has fewer places than there are holes" "" "the program that calls is wrong: it has to lend a list with a place for each hole (64 are always enough)"
     ∷ [])
-    ++ replicate 9 no-refusal
+    ++ replicate 7 no-refusal
     ++ (row "lent buffer or lists are too short" "" "lend 14 + 16n bytes, or n places" ∷ [])
 
 -- what is wrong with a word of a sheet's text, or with the whole of it
@@ -55,6 +57,7 @@ wrongs =
     ∷ "stands alone: a knot is a minute and an ordinate"
     ∷ "is one word too many: a knot is a minute and an ordinate"
     ∷ "is longer than 65535 bytes: no sheet is"
+    ∷ "is a hole: kaihveto mend fills it"
     ∷ []
 
 -- one of the columns

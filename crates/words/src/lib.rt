@@ -1,5 +1,5 @@
 // What is wrong, in plain words: a sentence for each number of refusal with what to do about it, a sentence for each thing that can be wrong in the text of a sheet,
-// and the lines of standard error that are made of them.
+// and the lines of standard error that are made of them, or say which knot was mended.
 ghost use mathlib.Core.Path.{_≡_};
 ghost use mathlib.Core.List.{[]};
 ghost use Prim.Native.Nat.{_+_, _≤_};
@@ -7,7 +7,7 @@ ghost use lib.ListN.{length, getD};
 ghost use Rattle.decimal.specs.Put.{Put};
 ghost use Rattle.split.specs.Parts.{lines};
 ghost use Rattle.words.specs.Sentences.{sentence, longest};
-ghost use Rattle.words.specs.Said.{at-line, at-place, refused-words, refused-line, quoted, shown, wrong-line};
+ghost use Rattle.words.specs.Said.{at-line, at-place, refused-words, refused-line, quoted, shown, wrong-line, mended-line};
 
 // What a sentence is looked up in.
 pub enum Table {
@@ -51,8 +51,8 @@ pub fn put_sentence(to: &mut [u8], at: usize, table: Table, n: u32) -> usize
             record is cut short, of the wrong kind or length, or bytes follow the end\n\
             code of this end (0 left, 1 right) is not 0, 1 or 2\n\
             log has not 1 to 60 bytes\n\
-            \n\
-            \n\
+            hole has no sound knot on one side\n\
+            list of changes has fewer places than there are holes\n\
             \n\
             \n\
             \n\
@@ -83,7 +83,7 @@ pub fn put_sentence(to: &mut [u8], at: usize, table: Table, n: u32) -> usize
             byte\n\
             end\n\
             \n\
-            \n\
+            knot\n\
             \n\
             \n\
             \n\
@@ -115,8 +115,8 @@ pub fn put_sentence(to: &mut [u8], at: usize, table: Table, n: u32) -> usize
             the file is damaged there, or is another kind of file\n\
             the card is damaged or comes from a newer program, or the calling program gave a wrong code\n\
             cut a longer log to one hour, leave out an empty one\n\
-            \n\
-            \n\
+            no line can be laid to a hole before the first sound knot or behind the last: leave that knot out, or give it a number\n\
+            the program that calls is wrong: it has to lend a list with a place for each hole (64 are always enough)\n\
             \n\
             \n\
             \n\
@@ -136,7 +136,8 @@ pub fn put_sentence(to: &mut [u8], at: usize, table: Table, n: u32) -> usize
             is too large: a minute is at most 65535, an ordinate from -32768 to 32767\n\
             stands alone: a knot is a minute and an ordinate\n\
             is one word too many: a knot is a minute and an ordinate\n\
-            is longer than 65535 bytes: no sheet is\n",
+            is longer than 65535 bytes: no sheet is\n\
+            is a hole: kaihveto mend fills it\n",
             n,
         ),
     }
@@ -220,4 +221,15 @@ pub fn wrong_line(to: &mut [u8], wrong: u32, line: u32, word: &[u8]) -> usize
     let next = decimal::put_words(to, after_word, b" ");
     let end = put_sentence(to, next, Table::Wrongs, wrong);
     decimal::put_byte(to, end, b'\n')
+}
+
+// What is said of a knot that was mended, at the front of a buffer: its line of a sheet or 0, its place, and its new ordinate.
+pub fn mended_line(to: &mut [u8], line: u32, knot: u32, new: i32) -> usize
+    requires { ⌜ 4096 ≤ length (now to) ⌝ }
+    ensures { λ r. ⌜ Put (mended-line line knot new) (now (to .entry)) (now (to .exit)) 0 r ⌝ }
+{
+    let after_line = put_line(to, 0, line);
+    let after_knot = decimal::put_worded(to, after_line, b"knot ", knot as u64);
+    let next = decimal::put_words(to, after_knot, b": hole, now ");
+    decimal::put_field(to, next, new as i64, b'\n')
 }

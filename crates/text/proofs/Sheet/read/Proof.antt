@@ -14,17 +14,17 @@ use Rattle.text.proofs.Sheet.read.Statement.{statement}
 use Rattle.text.proofs.Sheet.read.Tie as tie
 
 abbrev Inv-loop : tie.InvT-loop
-Inv-loop text sheet₀ line₀ at₀ sheet line at = Reading text sheet line at
+Inv-loop text mends sheet₀ line₀ at₀ sheet line at = Reading mends text sheet line at
 
 abbrev μ-loop : tie.MeasureT-loop
-μ-loop text sheet₀ line₀ at₀ sheet line at = length text + 1 - at
+μ-loop text mends sheet₀ line₀ at₀ sheet line at = length text + 1 - at
 
 returns : tie.Need-returns Inv-loop μ-loop
 unfolding sheet
 returns c = rw (lt-ltb _ _ (c .before .if1 .taken)) (c .refused .ensures)
 
 loop-holds : tie.Need-loop-holds Inv-loop μ-loop
-loop-holds c = rw (c .refused2 .ensures) (reading-starts _)
+loop-holds c = rw (c .refused2 .ensures) (reading-starts _ _)
 
 from-requires : tie.Need-from-requires Inv-loop μ-loop
 from-requires c κs = leb-true _ _ (c .if4 .taken)
@@ -33,7 +33,7 @@ taken-requires : tie.Need-taken-requires Inv-loop μ-loop
 taken-requires c κs = ltb-true _ _ (c .before .before .before .before .if3 .taken)
 
 next : (c : tie.After-taken Inv-loop μ-loop)
-    → Reading (now (c .before .before .before .before .before .before .before .before .before .before .before .before .before .args .text)) (c .taken .result)
+    → Reading (c .before .before .before .before .before .before .before .before .before .before .before .before .before .args .mends) (now (c .before .before .before .before .before .before .before .before .before .before .before .before .before .args .text)) (c .taken .result)
     (c .before .before .before .before .before .before .before .before .before .loop .line + 1)
     (c .before .before .before .before .before .before .before .before .before .loop .at + length (now (c .before .before .until .result)) + 1)
 next c =

@@ -1,0 +1,35 @@
+-- The lists of a sheet's knots, each the front of an array: the arrays have that many places, and the lists one length.
+-- Assumes nothing.
+use Prim.Native.Nat.{_≤_}
+use mathlib.Core.Path.{_≡_, sym, _∙_}
+use native.Mathlib.Omega.{arith}
+use lib.IntN.{pos}
+use lib.ListN.{length, take, replicate}
+use lib.Seq.{length-take-le}
+use Rattle.text.specs.declared.Sheet.{Sheet}
+use Rattle.text.specs.Sheet.{most}
+use Rattle.text.proofs.Room.{Roomy}
+
+module _ {a : Sheet} (r : Roomy a) where
+  pub minutes-hold : a .knots ≤ length (a .minutes)
+  minutes-hold = omega arith
+
+  pub ordinates-hold : a .knots ≤ length (a .ordinates)
+  ordinates-hold = omega arith
+
+  pub as-many-minutes : a .knots ≡ length (take (a .knots) (a .minutes))
+  as-many-minutes = sym (length-take-le (a .knots) (a .minutes) minutes-hold)
+
+  pub as-many-ordinates : a .knots ≡ length (take (a .knots) (a .ordinates))
+  as-many-ordinates = sym (length-take-le (a .knots) (a .ordinates) ordinates-hold)
+
+  pub as-many-zeros : a .knots ≡ length (take (a .knots) (replicate most (pos 0)))
+  as-many-zeros = sym (length-take-le (a .knots) (replicate most (pos 0)) (r .few))
+
+  pub few-minutes : length (take (a .knots) (a .minutes)) ≤ 65
+  few-minutes = omega (arith, as-many-minutes, r .few)
+
+  pub one-length :
+      (length (take (a .knots) (a .ordinates)) ≡ length (take (a .knots) (a .minutes))) × (length (take (a .knots) (replicate most (pos 0))) ≡ length (take (a .knots) (a .minutes)))
+      × (length (take (a .knots) (replicate most (pos 0))) ≡ length (take (a .knots) (a .minutes)))
+  one-length = (sym as-many-ordinates ∙ as-many-minutes, sym as-many-zeros ∙ as-many-minutes, sym as-many-zeros ∙ as-many-minutes)
