@@ -260,11 +260,11 @@ module _ {K A S : Type 0} (mend : K → A → Answer Card) (cs : K → A → Lis
   )
 
   module _ (list : K → A → List Change) (list′ : S → List Change) where
-    abbrev Mending : K → A → Mended → S → Type 0
-    Mending κs a x s = Mends (mend κs a) (cs κs a) (ys κs a) (ms κs a) (Ms κs a) (list κs a) (ys′ s) (ms′ s) (Ms′ s) (list′ s) x
+    abbrev Listing : K → A → Mended → S → Type 0
+    Listing κs a x s = Mends (mend κs a) (cs κs a) (ys κs a) (ms κs a) (Ms κs a) (list κs a) (ys′ s) (ms′ s) (Ms′ s) (list′ s) x
 
-    mending : Once Mending × Lent Mending ys′ × Lent Mending ms′ × Lent Mending Ms′ × Lent Mending list′
-    mending = (
+    listing-changes : Once Listing × Lent Listing ys′ × Lent Listing ms′ × Lent Listing Ms′ × Lent Listing list′
+    listing-changes = (
       (λ κs a x y s t p q. one-outcome (p .answer) (q .answer)),
       (λ κs a x y s t p q. one-outcome (p .ordinates) (q .ordinates)),
       (λ κs a x y s t p q. one-outcome (p .slopes) (q .slopes)),
@@ -533,4 +533,4 @@ boundary-refit = refitting _ _ _ _ _
 pub boundary-mended :
     Once c-mend.Post × Lent c-mend.Post (λ s. now (s .1 .0)) × Lent c-mend.Post (λ s. now (s .1 .1 .0)) × Lent c-mend.Post (λ s. now (s .1 .1 .1 .0))
     × Lent c-mend.Post (λ s. now (s .1 .1 .1 .1 .0))
-boundary-mended = mending _ _ _ _ _ _ _ _ _ _
+boundary-mended = listing-changes _ _ _ _ _ _ _ _ _ _
