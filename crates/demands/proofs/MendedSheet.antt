@@ -5,13 +5,10 @@ use native.Mathlib.Omega.{arith}
 use mathlib.Core.Path.{_≡_, refl, sym, ap, ap₂, subst, _∙_}
 use mathlib.Core.Logic.{_≢_}
 use mathlib.Core.List.{List}
-use lib.Dec.{lit<}
 use lib.IntN.{ℤ}
 use lib.ListN.{length, drop}
 use Rattle.answer.specs.Answer.{Answer, refused, given, accepted, number, place}
-use Rattle.answer.proofs.Never.{Never, given-never, never-then, never-each, numbered-refuse}
 use Rattle.answer.proofs.Steps.{first-accepts, next-accepts, both-accept}
-use Rattle.curve.specs.Kind.{quintic}
 use Rattle.curve.specs.Card.{Card}
 use Rattle.curve.specs.Steps.{lengths}
 use Rattle.curve.proofs.Accepted.{same-lengths}
@@ -19,18 +16,18 @@ use Rattle.rows.specs.declared.End.the-variants.{Free}
 use Rattle.fit.specs.Promise.{Fits, slopes-after, curvatures-after}
 use Rattle.fit.specs.Fit.{card-of}
 use Rattle.fit.proofs.Card.{its-card, places-written}
-use Rattle.fit.proofs.Numbered.{lengths-numbered, counted-numbered, stands-numbered, fit-numbered}
 use Rattle.exact_fit.specs.Solution.{before-8, OneSolution}
 use Rattle.exact_fit.proofs.Solution.{one-exact}
 use Rattle.holes.specs.declared.Fill.the-variants.{Line}
-use Rattle.holes.specs.Hole.{mended, bridged}
+use Rattle.holes.specs.Hole.{mended}
 use Rattle.mend.specs.declared.Change.{Change}
 use Rattle.mend.specs.declared.Mended.{Mended}
 use Rattle.mend.specs.Changes.{changes}
-use Rattle.mend.specs.Order.{mendable, mend-order, mend}
-use Rattle.mend.specs.Promise.{made, answered, ordinates-after, list-after}
+use Rattle.mend.specs.Order.{mend-order, mend}
+use Rattle.mend.specs.Promise.{answered, ordinates-after, list-after}
 use Rattle.mend.proofs.Bridges.{length-filled}
 use Rattle.mend.proofs.Mending.{changes-in-room}
+use Rattle.mending.proofs.Numbered.{mend-numbered}
 use Rattle.mending.proofs.PutBack.{sheet-is}
 use Rattle.mending.proofs.Afterwards.{mended-is-standing}
 use Rattle.demands.specs.Calls.{A-mend, sheet-minutes, sheet, sheet′, change-list, change-list′, of-the-mended, the-mending, the-fit}
@@ -40,16 +37,6 @@ use Rattle.demands.proofs.Answered.{over-front, spares-all}
 use Rattle.demands.proofs.Given.{eliminates}
 
 -- ---- what the answer says
-
-mend-numbered : (xs : List ℕ) (ys : List ℤ) (ms Ms room : ℕ) → Never 0 (mend xs ys ms Ms room)
-unfolding mend mend-order mendable bridged
-mend-numbered xs ys ms Ms room =
-    never-then
-    (never-then (lengths-numbered _ _ _ _)
-    (never-then (counted-numbered quintic _)
-    (never-then (never-each 0 _ 0 (length xs) (λ i l. stands-numbered quintic xs _ i))
-    (never-then (never-each 0 _ 0 (length ys) (λ i l. numbered-refuse 17 i _ (lit< tt))) (numbered-refuse 18 0 _ (lit< tt))))))
-    (fit-numbered xs (mended xs ys) Free Free ms Ms given-never)
 
 fields : (v : Answer Card) (cs : List Change) → (let r = answered v cs in (r .number ≡ number v) × (r .place ≡ place v) × (r .number ≢ 0 → r .count ≡ 0))
 unfolding number

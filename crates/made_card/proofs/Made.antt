@@ -43,7 +43,7 @@ use Rattle.demands.proofs.Numbered.{says}
 use Rattle.demands.proofs.FitToCard.{fitted-is-written, fitted-is-read}
 use Rattle.made_card.specs.Made.{sheet-fit, sheet-mend, made-bytes, Made}
 use Rattle.made_card.proofs.Typed.{minutes-front, minutes-typed}
-use Rattle.made_card.proofs.Numbered.{mend-numbered}
+use Rattle.mending.proofs.Numbered.{mend-numbered}
 
 -- a refusal's status is '1', so that behind a '0' the test held
 done-by : (test : Bool) (done : Reply) (words card : List ℕ) → cond test done (refusing words card) .status ≡ 48 → (test ≡ true) × (cond test done (refusing words card) ≡ done)

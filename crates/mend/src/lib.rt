@@ -89,7 +89,8 @@ fn change_at(sheet: &[i16], mended: &[i16], i: usize) -> Change
 }
 
 impl Plan {
-    fn refused(number: u32, place: u32) -> Plan
+    // No change is made.
+    pub fn unchanged(number: u32, place: u32) -> Plan
         ensures { λ r. ⌜ r ≡ plan-of number place [] ⌝ }
     {
         Plan {
@@ -201,7 +202,7 @@ fn settle(
         write(ordinates, mended);
         return plan;
     }
-    Plan::refused(fitted.number, fitted.place)
+    Plan::unchanged(fitted.number, fitted.place)
 }
 
 // Per knot 4, 5, 6; 17; 18; then the fit's own.
@@ -226,7 +227,7 @@ fn mend_alike(
             let mended = holes::filled(Fill::Line, minutes, ordinates);
             settle(minutes, &mended[..n], ordinates, slopes, curvatures)
         }
-        Judged::Refused(number, place) => Plan::refused(number, place),
+        Judged::Refused(number, place) => Plan::unchanged(number, place),
     }
 }
 
@@ -253,7 +254,7 @@ pub fn mend<'a>(
     );
     match sized {
         Judged::Accepted => mend_alike(minutes, ordinates, slopes, curvatures, room),
-        Judged::Refused(number, place) => Plan::refused(number, place),
+        Judged::Refused(number, place) => Plan::unchanged(number, place),
     }
 }
 

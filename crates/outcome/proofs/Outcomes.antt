@@ -148,6 +148,7 @@ use Rattle.mend.specs.declared.Change.{Change}
 use Rattle.mend.specs.declared.Plan.{Plan}
 use Rattle.mend.specs.declared.Mended.{Mended}
 use Rattle.mend.specs.Promise.{Plans, Mends}
+use Rattle.mend.proofs.Plan.unchanged.Reads as plan-unchanged
 use Rattle.mend.proofs.Plan.len.Reads as plan-len
 use Rattle.mend.proofs.Plan.answer.Reads as plan-answer
 use Rattle.mend.proofs.mend.Reads as mend
@@ -412,8 +413,8 @@ fit-anew = refitting _ _ _ _ _
 pub holes : Once is-hole.Post × Once one-at.Post × Once holes-count.Post × Once bridged.Post × Once filled.Post
 holes = (equation _ _, equation _ _, equation _ _, judgement _, equation _ _)
 
-pub plans : Once plan-len.Post × Once plan-answer.Post
-plans = (equation _ _, equation _ _)
+pub plans : Once plan-unchanged.Post × Once plan-len.Post × Once plan-answer.Post
+plans = (equation _ _, equation _ _, equation _ _)
 
 -- ordinates, slopes and curvatures follow the minutes
 pub mended : Once mend.Post × Lent mend.Post (λ s. now (s .1 .0)) × Lent mend.Post (λ s. now (s .1 .1 .0)) × Lent mend.Post (λ s. now (s .1 .1 .1 .0))

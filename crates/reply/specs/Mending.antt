@@ -11,6 +11,7 @@ use Rattle.answer.specs.Answer.{number, place}
 use Rattle.knots.specs.Lent.{lent}
 use Rattle.fit.specs.Promise.{slopes-after, curvatures-after}
 use Rattle.holes.specs.Hole.{mended}
+use Rattle.holes.specs.Needs.{most as places}
 use Rattle.mend.specs.declared.Plan.{Plan}
 use Rattle.mend.specs.Order.{mend}
 use Rattle.mend.specs.Changes.{changes}
@@ -21,7 +22,7 @@ use Rattle.reply.specs.declared.Mending.{Mending}
 
 -- the places for changes: one for each hole, since no card has more knots
 abbrev pub room : ℕ
-room = 64
+room = places
 
 -- to these knots mended, between free ends
 abbrev pub mend-reply : ToKnots

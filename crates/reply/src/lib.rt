@@ -9,7 +9,6 @@ ghost use lib.ListN.{length, getD};
 ghost use Rattle.knots.specs.Lent.{lent};
 ghost use Rattle.words.specs.Said.{wrong-line};
 ghost use Rattle.text.specs.Sheet.{sheet, blamed as blamed-word};
-ghost use Rattle.mend.specs.Promise.{plan-of};
 ghost use Rattle.reply.specs.Mending.{mend-reply, mending-reply, knots-plan, text-plan, Mends};
 ghost use Rattle.reply.specs.Reply.{of-a-knot, blamed, refusing, reply-of, fit-reply, reply, Answers};
 
@@ -171,20 +170,7 @@ pub struct Mending {
 
 impl Mending {
     // A place for each hole: no card has more knots.
-    const ROOM: usize = 64;
-}
-
-fn no_changes() -> Plan
-    ensures { λ r. ⌜ r ≡ plan-of 0 0 [] ⌝ }
-{
-    Plan {
-        number: 0,
-        place: 0,
-        count: 0,
-        places: [0; Mending::ROOM],
-        olds: [0; Mending::ROOM],
-        news: [0; Mending::ROOM],
-    }
+    const ROOM: usize = holes::MOST;
 }
 
 fn mend_lists(
@@ -239,7 +225,7 @@ pub fn mend(text: &[u8], to: &mut [u8], card: &mut [u8]) -> Mending
     let lines = sheet.lines;
     if sheet.wrong != 0 {
         let answered = complain(text, sheet.wrong, sheet.line, to);
-        let plan = no_changes();
+        let plan = Plan::unchanged(0, 0);
         return Mending {
             answered,
             plan,

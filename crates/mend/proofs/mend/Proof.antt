@@ -16,7 +16,7 @@ returns : tie.Need-returns
 returns c = plans-along (step-passes _ (c .before .before .before .before .before .before .before .before .before .sized .ensures) (c .before .before .before .before .before .before .before .enum-told .given .1) refl ∙ in-groups _ _ _ _ _) (c .before .before .before .mend-alike .ensures)
 
 returns-2 : tie.Need-returns-2
-returns-2 c = plans-along (step-refuses _ (c .before .before .before .before .sized .ensures) (c .before .before .sized2 .given .1) ∙ in-groups _ _ _ _ _) (plans-refused (c .refused .ensures))
+returns-2 c = plans-along (step-refuses _ (c .before .before .before .before .sized .ensures) (c .before .before .sized2 .given .1) ∙ in-groups _ _ _ _ _) (plans-refused (c .unchanged .ensures))
 
 pub mend-spec : {M : Type 1} → statement M
 mend-spec =

@@ -36,7 +36,7 @@ returns : tie.Need-returns
 returns c = plans-along (step-passes _ (c .before .before .before .before .before .before .before .before .before .before .before .before .mendable .ensures) (c .before .before .before .before .before .before .before .before .before .before .enum-told .given .1) refl) (rw (mended-is (c .before .before .before .before .before .before .before .before)) at (c .before .before .before .settle .ensures))
 
 returns-2 : tie.Need-returns-2
-returns-2 c = plans-along (step-refuses _ (c .before .before .before .before .mendable .ensures) (c .before .before .number .given .1)) (plans-refused (c .refused .ensures))
+returns-2 c = plans-along (step-refuses _ (c .before .before .before .before .mendable .ensures) (c .before .before .number .given .1)) (plans-refused (c .unchanged .ensures))
 
 pub mend-alike-spec : {M : Type 1} → statement M
 mend-alike-spec =

@@ -9,7 +9,7 @@ returns : tie.Need-returns
 returns c = plans-fitted _ _ _ _ (c .before .before .before .before .before .before .before .before .before .fit-between .ensures) (c .before .before .before .before .before .if1 .taken) (c .before .write .ensures) (c .before .before .before .of .ensures)
 
 returns-2 : tie.Need-returns-2
-returns-2 c = plans-unfitted _ _ _ _ (c .before .before .before .before .before .fit-between .ensures) (c .before .if1 .left) (c .refused .ensures)
+returns-2 c = plans-unfitted _ _ _ _ (c .before .before .before .before .before .fit-between .ensures) (c .before .if1 .left) (c .unchanged .ensures)
 
 pub settle-spec : {M : Type 1} → statement M
 settle-spec =

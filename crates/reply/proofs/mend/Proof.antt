@@ -21,7 +21,7 @@ returns c =
     let z = c .before .before .before .before .before .if1 .taken in
     record {
       answers = replies-wrong true mend-reply (now (a .text)) e (now (a .card)) z (c .before .before .before .complain .ensures);
-      changes = c .no-changes .ensures ∙ plans-nothing (now (a .text)) e z;
+      changes = c .unchanged .ensures ∙ plans-nothing (now (a .text)) e z;
       lines = ap (λ s. s .lines) e;
     }
 

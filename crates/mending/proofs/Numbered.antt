@@ -1,4 +1,4 @@
--- No step of the order of mending refuses with the number 0.
+-- No step of the order of mending refuses with the number 0, so that 0 is answered exactly where it accepts.
 -- Assumes nothing.
 use Prim.Native.Nat.{ℕ}
 use mathlib.Core.List.{List}
