@@ -8,7 +8,6 @@ use lib.IntN.{ℤ, pos, natAbs, _+ℤ_, _*ℤ_}
 use lib.ListN.{getD}
 use mir.Syntax.{w16}
 use mir.Val.{SFits}
-use Rattle.whole.specs.Whole.{nearest}
 use Rattle.whole.proofs.Order.{abs-mul, abs-add}
 use Rattle.whole.proofs.Linear.{abs-fits}
 use Rattle.whole.proofs.Rounding.{nearest-most}

@@ -5,7 +5,7 @@ use mathlib.Core.Path.{_≡_, refl, sym, ap, _∙_}
 use mathlib.Core.List.{List}
 use lib.IntN.{ℤ, pos, natAbs}
 use lib.ListN.{length, getD}
-use Rattle.answer.specs.Answer.{Verdict, accepted, _then_}
+use Rattle.answer.specs.Answer.{accepted, _then_}
 use Rattle.answer.proofs.Steps.{first-accepts, next-accepts, both-accept, accepts-refuse}
 use Rattle.curve.specs.Kind.{quintic}
 use Rattle.curve.specs.Steps.{lengths, counted}

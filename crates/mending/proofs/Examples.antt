@@ -11,7 +11,6 @@ use Rattle.curve.specs.Kind.{quintic}
 use Rattle.curve.specs.Card.{back}
 use Rattle.curve.specs.Steps.{lengths, counted, stands}
 use Rattle.holes.specs.Hole.{hole, is-hole, line, hole-at, before, after, left-of, right-of, bridged, holes, holes-to, line-at, put-at, filled-at, filled, mended}
-use Rattle.mend.specs.declared.Change.{Change}
 use Rattle.mend.specs.Changes.{change-at, changes-to, changes, restored}
 use Rattle.mend.specs.Order.{mendable, mend-order}
 

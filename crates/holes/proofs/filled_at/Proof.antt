@@ -1,7 +1,7 @@
 -- `holes::filled_at` meets its contract.
 -- Assumes nothing.
 use mathlib.Core.Path.{_≡_, sym, subst, _∙_}
-use mathlib.Core.Bool.{true, false, cond}
+use mathlib.Core.Bool.{true}
 use lib.IntN.{pos}
 use lib.ListN.{getD}
 use mir.Syntax.{w16}
