@@ -1,4 +1,4 @@
--- Document 01, "Cases at the edges": P1 to P12, a single table under one claim, of the definitions: by computation.
+-- Document 01, "Cases at the edges": P1 to P12, with the minutes of document 02, order 2, a single table under one claim, of the definitions: by computation.
 -- Assumes nothing.
 use mathlib.Core.Path.{_≡_, refl}
 use mathlib.Core.List.{List, [], _∷_, map}
@@ -6,7 +6,7 @@ use Prim.Native.Nat.{ℕ}
 use lib.IntN.{ℤ, pos}
 use Rattle.whole.specs.Whole.{minus, beyond, nearest}
 use Rattle.answer.specs.Answer.{Answer, refused, given, _then_, refuse, each}
-use Rattle.curve.specs.Log.{count, sum, mean-of, long, readable, some-good, mean}
+use Rattle.curve.specs.Log.{count, sum, mean-of, long, readable, some-good, reachable, mean}
 use Rattle.curve.specs.Formula.{power, worth, ∂, ∂^, amount}
 use Rattle.curve.specs.Curve.{degree, N, rightward, leftward, allowance}
 use Rattle.curve.specs.Kind.{quintic-asks, quintic}
@@ -57,8 +57,9 @@ value-slope c minute = shown (λ r. r .value ∷ r .slope ∷ []) (reading quint
 unfoldable pub judged : Card → Answer (List ℤ)
 judged c = shown (λ u. []) (verdict quintic c)
 
-unfoldable pub ordinate-count : List ℕ → Answer (List ℤ)
-ordinate-count log = shown (λ r. r .ordinate ∷ pos (r .good-bytes) ∷ []) (mean 0 log)
+-- of a log from a first minute on: the minute for which it stands, its ordinate and its count of good bytes
+unfoldable pub mean-from : ℕ → List ℕ → Answer (List ℤ)
+mean-from first log = shown (λ r. pos (r .minute) ∷ r .ordinate ∷ pos (r .good-bytes) ∷ []) (mean first log)
 
 infix 4 _is_
 pub record Case : Type 0 where
@@ -79,16 +80,23 @@ cases =
     ∷ (judged (table-3 (minus 108_803)) is refused 10 2)
     ∷ (value line 1 is given (pos 0 ∷ []))
     ∷ (value line 3 is given (pos 2 ∷ []))
-    ∷ (ordinate-count (100 ∷ 255 ∷ 102 ∷ []) is given (pos 5050 ∷ pos 2 ∷ []))
-    ∷ (ordinate-count (0 ∷ 0 ∷ 0 ∷ 1 ∷ []) is given (pos 12 ∷ pos 4 ∷ []))
-    ∷ (ordinate-count (0 ∷ 1 ∷ 1 ∷ 1 ∷ []) is given (pos 38 ∷ pos 4 ∷ []))
-    ∷ (ordinate-count (255 ∷ []) is refused 13 0)
-    ∷ (ordinate-count (201 ∷ []) is refused 12 0)
+    ∷ (mean-from 60 (100 ∷ 255 ∷ 102 ∷ []) is given (pos 61 ∷ pos 5050 ∷ pos 2 ∷ []))
+    ∷ (mean-from 60 (0 ∷ 0 ∷ 0 ∷ 1 ∷ []) is given (pos 62 ∷ pos 12 ∷ pos 4 ∷ []))
+    ∷ (mean-from 60 (0 ∷ 1 ∷ 1 ∷ 1 ∷ []) is given (pos 62 ∷ pos 38 ∷ pos 4 ∷ []))
+    ∷ (mean-from 60 (255 ∷ []) is refused 13 0)
+    ∷ (mean-from 60 (201 ∷ []) is refused 12 0)
+    -- faults count in the length
+    ∷ (mean-from 60 (100 ∷ 255 ∷ 255 ∷ 102 ∷ []) is given (pos 62 ∷ pos 5050 ∷ pos 2 ∷ []))
+    -- the last minute, and the one behind it: 12 and 13 go before 19
+    ∷ (mean-from 65_534 (100 ∷ 102 ∷ []) is given (pos 65_535 ∷ pos 5050 ∷ pos 2 ∷ []))
+    ∷ (mean-from 65_535 (100 ∷ 102 ∷ []) is refused 19 0)
+    ∷ (mean-from 65_535 (255 ∷ 255 ∷ []) is refused 13 0)
+    ∷ (mean-from 65_535 (100 ∷ 201 ∷ []) is refused 12 1)
     ∷ []
 
 pub hold : map (λ c. c .found) cases ≡ map (λ c. c .wanted) cases
-unfolding cases shown table-3 p1 line value value-slope judged ordinate-count
-    beyond nearest _then_ refuse each readable count sum mean-of long some-good mean
+unfolding cases shown table-3 p1 line value value-slope judged mean-from
+    beyond nearest _then_ refuse each readable count sum mean-of long some-good reachable mean
     power worth ∂ ∂^ amount degree N rightward leftward allowance quintic-asks quintic
     knots knot back on gap spot inverse clear over rise jump allowed joint jumps slope-beyond curvature-beyond
     lengths counted codes stands in-range smooth outside numbers-sound sound verdict last-at gap-of spell denominator between reads reads-at reading-order reading

@@ -8,5 +8,6 @@ pub mod Sides
 pub mod Demand3
 pub mod NearExact
 pub mod NeverTen
+pub mod Middle
 pub mod Cases
 pub mod Witness

@@ -19,7 +19,7 @@ use Rattle.demands.specs.Demands.{Fit-says, Room-for, Off, Demand-1, Dem
 use Rattle.fit.proofs.Numbered.{codes-numbered}
 use Rattle.demands.proofs.Numbered.{accepts}
 use Rattle.demands.proofs.Answered.{mean-answers, fit-says, fit-spares, check-answers, read-answers, read-spares, write-answers, write-spares, reading-answers, table-answers, table-spares, refit-answers, refit-spares}
-use Rattle.demands.proofs.Given.{eliminates, stated}
+use Rattle.demands.proofs.Given.{eliminates, mean-given}
 use Rattle.demands.proofs.MendedSheet.{mend-answers, mend-spares, mend-eliminates, one-mended-solution}
 use Rattle.demands.proofs.RoundTrip.{written-accepted, written-held, accepts-its-card, takes, reads-its-card, made-again}
 use Rattle.demands.proofs.Off.{stands-on-a-gap, of-card, close, at-knots, on-its-card, in-table, table-counted, written-never, checked-never, read-never, read-off-never, table-never}
@@ -74,7 +74,7 @@ two =
       fit = λ c zero. eliminates (without-ends c) (c .promised) (fits c .accepts zero);
       fit-between = λ c zero. eliminates (between-ends c) (c .promised) (fits-between c .accepts zero);
       mend = mend-eliminates;
-      mean = λ c zero. stated (first-minute c) (log c) (c .promised) (mean-answers (first-minute c) (log c) (c .promised) .0 .accepts zero);
+      mean = λ c zero. mean-given (first-minute c) (log c) (c .promised) (mean-answers (first-minute c) (log c) (c .promised) .0 .accepts zero);
       written-is-checked = λ w c zero same.
           accepts-its-card (checked-bytes c) (written-held (w .promised .0) (w .promised .1) zero same) (c .promised .0) (written-accepted (w .promised .0) (w .promised .1) zero same);
       written-is-read = λ w r zero same room.

@@ -1,13 +1,15 @@
 -- Demand 2 of a fit and of a mean: what they give where they accept.
 -- Assumes nothing.
-use Prim.Native.Nat.{ℕ, _*_}
-use mathlib.Core.Path.{_≡_, sym, ap, _∙_}
+use Prim.Native.Nat.{ℕ, _*_, _≤_}
+use mathlib.Core.Path.{_≡_, ap, _∙_}
 use mathlib.Core.List.{List}
+use native.Mathlib.Omega.{arith}
 use lib.IntN.{pos}
+use lib.ListN.{length}
 use Rattle.whole.specs.Whole.{nearest}
-use Rattle.answer.specs.Answer.{Answer, refused, given}
-use Rattle.answer.proofs.Steps.{next-accepts}
-use Rattle.curve.specs.Log.{Mean, count, sum, mean-of, mean}
+use Rattle.answer.specs.Answer.{given}
+use Rattle.curve.specs.Log.{latest, count, sum, middle, mean-of, mean}
+use Rattle.curve.proofs.Middle.{stated}
 use Rattle.log.specs.declared.Mean.{Mean as Answered}
 use Rattle.log.specs.Answers.{answered}
 use Rattle.fit.specs.Fit.{card-of}
@@ -26,15 +28,12 @@ eliminates f fits g =
       curvatures = fits .curvatures ∙ ap (λ v. curvatures-after v (f .curvatures)) (g .is) ∙ ap (λ c. c .curvatures) is;
     }
 
-abbrev mean-in : Mean → Answer Mean → Mean
-mean-in d (given m) = m
-mean-in d (refused n p) = d
-
 -- an accepted mean is the stated one
-pub stated : (minute : ℕ) (log : List ℕ) {r : Answered} → r ≡ answered (mean minute log) → Is-given (mean minute log)
-    → (r .minute ≡ minute) × (r .ordinate ≡ nearest (pos (50 * sum log)) (count log)) × (r .good ≡ count log)
-unfolding mean mean-of answered
-stated minute log e g =
-    let m : g .what ≡ mean-of minute log = sym (ap (mean-in (g .what)) (next-accepts _ _ (next-accepts _ _ (next-accepts _ _ (g .is))))) in
-    let is = e ∙ ap answered (g .is) in
-    (ap (λ r. r .minute) is ∙ ap (λ m. m .minute) m, ap (λ r. r .ordinate) is ∙ ap (λ m. m .ordinate) m, ap (λ r. r .good) is ∙ ap (λ m. m .good-bytes) m)
+pub mean-given : (first : ℕ) (log : List ℕ) {r : Answered} → r ≡ answered (mean first log) → Is-given (mean first log)
+    → (r .minute ≡ middle first (length log)) × (r .minute ≤ latest) × (r .ordinate ≡ nearest (pos (50 * sum log)) (count log)) × (r .good ≡ count log)
+unfolding mean-of answered
+mean-given first log e g =
+    let m = stated first log (g .is) in
+    let is = e ∙ ap answered (g .is ∙ ap given (m .is)) in
+    let at = ap (λ r. r .minute) is in
+    (at, omega (arith, at, m .in-time), ap (λ r. r .ordinate) is, ap (λ r. r .good) is)

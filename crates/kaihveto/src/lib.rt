@@ -21,12 +21,12 @@ ghost use Rattle.mend.specs.Order.{mend};
 ghost use Rattle.mend.specs.Promise.{Mends};
 ghost use Rattle.kaihveto.specs.Types.{Minutes};
 
-// The mean of a log that starts at a minute: 16, 12, 13.
+// The mean of a log from its first minute on, and the minute for which it stands: 16, 12, 13, 19.
 #[no_mangle]
-pub extern "C" fn kaihveto_mean(minute: u16, log: &[u8]) -> log::Mean
-    ensures { λ r. ⌜ r ≡ answered (mean minute (now (log .entry))) ⌝ }
+pub extern "C" fn kaihveto_mean(first: u16, log: &[u8]) -> log::Mean
+    ensures { λ r. ⌜ r ≡ answered (mean first (now (log .entry))) ⌝ }
 {
-    log::mean_of(minute, log)
+    log::mean_of(first, log)
 }
 
 // Slopes and curvatures of the curve through the knots, without naming ends: 3, 1, 2; per knot 4, 5, 6; 8; 9; 10.
