@@ -142,7 +142,8 @@ fn compare(inputs: &Inputs, random: &mut Random) {
     for _ in 0..100_000 {
         let top = random.pick(&[200, 200, 201, 255]);
         let log: Vec<u8> = (0..random.below(62)).map(|_| random.within(0, top) as u8).collect();
-        assert_eq!(boundary::mean(9, &log), plain::mean(9, &log), "mean of {log:?}");
+        let first = random.pick(&[9, 65_504, 65_505, 65_506, 65_535]);
+        assert_eq!(boundary::mean(first, &log), plain::mean(first, &log), "mean from {first} of {log:?}");
     }
 }
 

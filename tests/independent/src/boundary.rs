@@ -101,7 +101,7 @@ pub struct End {
 
 #[cfg(target_arch = "x86_64")]
 extern "C" {
-    fn kaihveto_mean(minute: u16, log: *const u8, log_length: usize) -> Mean;
+    fn kaihveto_mean(first_minute: u16, log: *const u8, log_length: usize) -> Mean;
     fn kaihveto_fit(
         minutes: *const u16,
         minutes_length: usize,
@@ -191,8 +191,8 @@ extern "C" {
 
 // Each call below passes pointers and lengths of slices that live until it returns and, where they are lent for writing, overlap no other.
 
-pub fn mean(minute: u16, log: &[u8]) -> Mean {
-    unsafe { kaihveto_mean(minute, log.as_ptr(), log.len()) }
+pub fn mean(first_minute: u16, log: &[u8]) -> Mean {
+    unsafe { kaihveto_mean(first_minute, log.as_ptr(), log.len()) }
 }
 
 pub fn fit(minutes: &[u16], ordinates: &[i16], slopes: &mut [i32], curvatures: &mut [i32]) -> Fitted {

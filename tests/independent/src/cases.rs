@@ -87,12 +87,23 @@ fn p7() {
 
 #[test]
 fn p8_to_p12() {
-    let of = |log: &[u8]| mean(7, log).map(|mean| (mean.minute, mean.ordinate, mean.good));
-    assert_eq!(of(&[100, 255, 102]), Ok((7, 5050, 2)));
-    assert_eq!(of(&[0, 0, 0, 1]), Ok((7, 12, 4)));
-    assert_eq!(of(&[0, 1, 1, 1]), Ok((7, 38, 4)));
+    let of = |log: &[u8]| mean(60, log).map(|mean| (mean.minute, mean.ordinate, mean.good));
+    assert_eq!(of(&[100, 255, 102]), Ok((61, 5050, 2)));
+    assert_eq!(of(&[0, 0, 0, 1]), Ok((62, 12, 4)));
+    assert_eq!(of(&[0, 1, 1, 1]), Ok((62, 38, 4)));
     assert_eq!(number_and_place(of(&[255])), (13, 0));
     assert_eq!(number_and_place(of(&[201])), (12, 0));
+    assert_eq!(of(&[100, 255, 255, 102]), Ok((62, 5050, 2)));
+}
+
+#[test]
+fn logs_at_the_last_minute() {
+    let minute = |first: u16, log: &[u8]| mean(first, log).map(|mean| mean.minute);
+    assert_eq!(minute(65_504, &[100; 60]), Ok(65_534));
+    assert_eq!(minute(65_505, &[100; 60]), Ok(65_535));
+    assert_eq!(number_and_place(minute(65_506, &[100; 60])), (19, 0));
+    assert_eq!(number_and_place(minute(65_535, &[255, 255])), (13, 0));
+    assert_eq!(number_and_place(minute(65_535, &[100, 201])), (12, 1));
 }
 
 #[test]

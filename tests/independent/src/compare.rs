@@ -90,12 +90,12 @@ fn number<T>(answer: &Result<T, Refusal>) -> u32 {
     answer.as_ref().map_or_else(|refusal| refusal.number, |_| 0)
 }
 
-pub fn mean(tally: &mut Tally, minute: u16, log: &[u8]) {
-    let wanted = match reference::mean(minute, log) {
+pub fn mean(tally: &mut Tally, first: u16, log: &[u8]) {
+    let wanted = match reference::mean(first, log) {
         Ok(mean) => boundary::Mean { minute: mean.minute.into(), ordinate: mean.ordinate, good: mean.good, ..Default::default() },
         Err(Refusal { number, place }) => boundary::Mean { number, place, ..Default::default() },
     };
-    tally.count(wanted.number, boundary::mean(minute, log), wanted, true, || format!("mean {minute} of {}", hex(log)));
+    tally.count(wanted.number, boundary::mean(first, log), wanted, true, || format!("mean from {first} of {}", hex(log)));
 }
 
 fn fitted(answer: &Result<(), Refusal>) -> boundary::Fitted {

@@ -74,8 +74,8 @@ impl Answer {
     }
 }
 
-pub unsafe fn kaihveto_mean(minute: u16, log: *const u8, log_length: usize) -> Mean {
-    Call::new(b'm').number(minute.into()).list(log, log_length).made().answer()
+pub unsafe fn kaihveto_mean(first_minute: u16, log: *const u8, log_length: usize) -> Mean {
+    Call::new(b'm').number(first_minute.into()).list(log, log_length).made().answer()
 }
 
 unsafe fn fitted(call: Call, slopes: *mut i32, slopes_length: usize, curvatures: *mut i32, curvatures_length: usize) -> Fitted {

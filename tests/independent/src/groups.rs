@@ -13,6 +13,25 @@ fn mixes() -> Vec<[u16; 2]> {
     CODES.iter().flat_map(|&left| CODES.map(|right| [left, right])).collect()
 }
 
+/// Logs that stand at the last minute of all, before it or behind it: good ones, and such with faults, faults alone or a byte that means nothing.
+fn logs_at_the_last_minute(tally: &mut Tally, random: &mut Random) {
+    for length in 0..=LONGEST_LOG + 1 {
+        for back in 0..=LONGEST_LOG + 2 {
+            let first = 65_535 - back as u16;
+            let good: Vec<u8> = (0..length).map(|_| random.below(201) as u8).collect();
+            let faulty = good.iter().map(|&byte| if random.once_in(2) { 255 } else { byte }).collect::<Vec<u8>>();
+            compare::mean(tally, first, &good);
+            compare::mean(tally, first, &faulty);
+            compare::mean(tally, first, &vec![255; length]);
+            if length > 0 {
+                let mut spoilt = faulty;
+                spoilt[random.below(length)] = random.within(201, 254) as u8;
+                compare::mean(tally, first, &spoilt);
+            }
+        }
+    }
+}
+
 /// Logs of every length from 0 to one too many, each byte value alone, among good bytes and among faults.
 fn logs(tally: &mut Tally, random: &mut Random) {
     for length in 0..=LONGEST_LOG + 1 {
@@ -35,9 +54,10 @@ fn logs(tally: &mut Tally, random: &mut Random) {
             if random.once_in(8) && length > 0 {
                 log[random.below(length)] = random.within(200, 255) as u8;
             }
-            compare::mean(tally, random.pick(&[0, 1, 65_535]), &log);
+            compare::mean(tally, random.pick(&[0, 1, 65_504, 65_505, 65_506, 65_535]), &log);
         }
     }
+    logs_at_the_last_minute(tally, random);
 }
 
 /// Fits of 0 to 66 knots, all mixes of ends, sound sheets and spoilt ones.
