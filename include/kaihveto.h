@@ -58,9 +58,12 @@ extern "C" {
 /* The version of this header and of the archive that is built beside it. MAJOR rises where a program that was right before
    has to be looked at or compiled anew: a function or an answer's fields change, a number changes its meaning, or the same
    input gets another answer. MINOR rises where something is added and all else stays. The archive itself does not carry it:
-   take both from one state of the sources. */
-#define KAIHVETO_VERSION_MAJOR 1
-#define KAIHVETO_VERSION_MINOR 2
+   take both from one state of the sources.
+
+   2.0: kaihveto_mean answers the minute in the log's middle, where 1.2 answered the log's first, and has the refusal 19. Cards
+   that were made with the first minutes lead the rooms by half a log, and are to be made anew. */
+#define KAIHVETO_VERSION_MAJOR 2
+#define KAIHVETO_VERSION_MINOR 0
 
 /* The end codes. */
 #define KAIHVETO_FREE 0
@@ -108,12 +111,15 @@ enum kaihveto_number {
     KAIHVETO_LOG_LENGTH = 16,          /* log length not 1 to 60 */
     KAIHVETO_NO_SOUND_KNOT = 17,       /* a hole with no sound knot on one side; place: the hole */
     KAIHVETO_TOO_FEW_CHANGES = 18,     /* fewer places in the list of changes than holes */
+    KAIHVETO_LOG_TOO_LATE = 19,        /* the log's middle is behind minute 65,535 */
     KAIHVETO_NO_ROOM = 26              /* buffer under 14 + 16n bytes, or lists under n places */
 };
 
-/* The mean of a log of 1 to 60 bytes, one a minute: 0 to 200 are half percents, 255 is a fault and is skipped. The answer has
-   the minute handed in, the ordinate of the knot that stands there, and how many bytes were good.
-   Refusals, in this order: 16, 12, 13. Nothing is written. */
+/* The mean of a log of 1 to 60 bytes, one a minute from first_minute on: 0 to 200 are half percents, 255 is a fault and is
+   skipped. The answer has the minute for which the mean stands, its ordinate, and how many bytes were good. That minute is the
+   log's middle: first_minute plus half of log_length, faults among it, without the half of an odd length. It is the one to
+   give to the fit, as the knot's minute, and is at most 65,535.
+   Refusals, in this order: 16, 12, 13, 19. Nothing is written. */
 typedef struct {
     uint32_t number;
     uint32_t place;
@@ -122,7 +128,7 @@ typedef struct {
     uint32_t good;
 } kaihveto_mean_answer;
 
-kaihveto_mean_answer kaihveto_mean(uint16_t minute, const uint8_t *log, size_t log_length);
+kaihveto_mean_answer kaihveto_mean(uint16_t first_minute, const uint8_t *log, size_t log_length);
 
 /* The fit: the slopes and curvatures, in card units, of the curve through these knots. All four lists have one length, the
    number of knots; on acceptance every place of slopes and curvatures is written. Both ends are free.

@@ -1,6 +1,6 @@
 -- Complaints and mended knots as they are read, and the limits that the sentences name, each of them the one of the definitions. Computed; assumes nothing.
 use Prim.Native.String.{String}
-use Prim.Native.Nat.{ℕ}
+use Prim.Native.Nat.{ℕ, _+_, _-_}
 use mathlib.Core.Path.{_≡_, refl}
 use mathlib.Core.List.{List, [], _∷_, _++_}
 use lib.IntN.{pos, negsuc}
@@ -8,6 +8,7 @@ use Rattle.decimal.specs.Decimal.{spelled, digits, worded, signed, field}
 use Rattle.split.specs.Parts.{marks, stop}
 use Rattle.numeral.specs.Number.{plain}
 use Rattle.curve.specs.Kind.{quintic}
+use Rattle.curve.specs.Log.{longest, largest-good, fault, latest}
 use Rattle.words.specs.declared.Table.the-variants.{Refusals, Remedies}
 use Rattle.words.specs.Sentences.{sentence}
 use Rattle.words.specs.Said.{at-line, at-place, refused-words, refused-line, shown, wrong-line, mended-line}
@@ -39,6 +40,8 @@ pub limits :
     × (sentence Refusals 5 ≡ worded "more than " (quintic .widest-gap) ++ spelled " minutes lie between this knot and the one before")
     × (sentence Refusals 6 ≡ worded "ordinate is beyond " (quintic .ordinates) ++ spelled " hundredths either way")
     × (sentence Refusals 9 ≡ worded "slope or curvature is beyond " (quintic .slopes) ++ spelled " card units")
+    × (sentence Refusals 12 ≡ worded "log byte is from " (largest-good + 1) ++ worded " to " (fault - 1)) × (sentence Refusals 16 ≡ worded "log has not 1 to " longest ++ spelled " bytes")
+    × (sentence Refusals 19 ≡ worded "log's middle is behind minute " latest)
     × (sentence Remedies 18 ≡ worded "the program that calls is wrong: it has to lend a list with a place for each hole (" (quintic .most-knots) ++ spelled " are always enough)")
 unfolding spelled digits sentence quintic
-limits = (refl, refl, refl, refl, refl, refl)
+limits = (refl, refl, refl, refl, refl, refl, refl, refl, refl)

@@ -1,4 +1,4 @@
--- The sentences, each at the place of its number: document 01, "Numbers of refusal", and order 1's two, with what to do about each; and what can be wrong in the text of a sheet (crate `text`).
+-- The sentences, each at the place of its number: document 01, "Numbers of refusal", and those of document 02, with what to do about each; and what can be wrong in the text of a sheet (crate `text`).
 -- README's table is this one. Assumes nothing.
 use Prim.Native.Nat.{ℕ}
 use Prim.Native.String.{String}
@@ -21,21 +21,21 @@ row what place remedy = record { what = what; place = place; remedy = remedy }
 abbrev pub no-refusal : Row
 no-refusal = row "" "" ""
 
--- 0 to 18; no refusal has a number from 19 to 25; 26
+-- 0 to 19; no refusal has a number from 20 to 25; 26
 abbrev pub refusals : List Row
 refusals =
     (no-refusal
     ∷ row "fewer than 3 knots" "" "give more logs"
     ∷ row "more than 64 knots" "" "leave knots out, or make two cards"
     ∷ row "lent lists differ in length" "" "the program that calls is wrong: it has to lend lists of one length"
-    ∷ row "minute is not above the one before" "knot" "two logs start at the same minute, or the sheet is out of order: look at that knot"
+    ∷ row "minute is not above the one before" "knot" "two logs have the same middle, or the sheet is out of order: look at that knot"
     ∷ row "more than 60 minutes lie between this knot and the one before" "knot" "a log is missing before that knot"
     ∷ row "ordinate is beyond 20000 hundredths either way" "knot" "look at that knot's number: 100 % is 10000"
     ∷ row "number given for this end is no number, or beyond 256 either way" "knot" "give the end's slope and curvature in hundredths per minute (squared), not in card units"
     ∷ row "elimination met a zero or a number that is not finite" "knot" "no input is known that does this: keep the sheet and report it"
     ∷ row "slope or curvature is beyond 1048576 card units" "knot" "the curve is too steep there: knots too close for so large a step; or a number on the card was changed"
     ∷ row "third or fourth derivative jumps by more than is allowed" "knot" "the numbers at or beside that knot do not belong together, most often since one was changed: make the card anew; if a fit says it, keep the sheet and report it"
-    ∷ row "minute is outside the card" "" "it is before the first knot or after the last; the last log's own hour is not on the card"
+    ∷ row "minute is outside the card" "" "it is before the first knot or after the last; a log's knot stands in its middle, so the first log's first half and the last log's second half are not on the card"
     ∷ row "log byte is from 201 to 254" "byte" "the log is damaged at that byte"
     ∷ row "log has no good byte" "" "the sensor was dead: leave this log out"
     ∷ row "record is cut short, of the wrong kind or length, or bytes follow the end" "byte" "the file is damaged there, or is another kind of file"
@@ -43,8 +43,9 @@ refusals =
     ∷ row "log has not 1 to 60 bytes" "" "cut a longer log to one hour, leave out an empty one"
     ∷ row "hole has no sound knot on one side" "knot" "no line can be laid to a hole before the first sound knot or behind the last: leave that knot out, or give it a number"
     ∷ row "list of changes has fewer places than there are holes" "" "the program that calls is wrong: it has to lend a list with a place for each hole (64 are always enough)"
+    ∷ row "log's middle is behind minute 65535" "" "a knot's minute is at most 65535, and a log's knot stands in its middle: look at the log's first minute"
     ∷ [])
-    ++ replicate 7 no-refusal
+    ++ replicate 6 no-refusal
     ++ (row "lent buffer or lists are too short" "" "lend 14 + 16n bytes, or n places" ∷ [])
 
 -- what is wrong with a word of a sheet's text, or with the whole of it

@@ -53,7 +53,7 @@ pub fn put_sentence(to: &mut [u8], at: usize, table: Table, n: u32) -> usize
             log has not 1 to 60 bytes\n\
             hole has no sound knot on one side\n\
             list of changes has fewer places than there are holes\n\
-            \n\
+            log's middle is behind minute 65535\n\
             \n\
             \n\
             \n\
@@ -102,14 +102,14 @@ pub fn put_sentence(to: &mut [u8], at: usize, table: Table, n: u32) -> usize
             give more logs\n\
             leave knots out, or make two cards\n\
             the program that calls is wrong: it has to lend lists of one length\n\
-            two logs start at the same minute, or the sheet is out of order: look at that knot\n\
+            two logs have the same middle, or the sheet is out of order: look at that knot\n\
             a log is missing before that knot\n\
             look at that knot's number: 100 % is 10000\n\
             give the end's slope and curvature in hundredths per minute (squared), not in card units\n\
             no input is known that does this: keep the sheet and report it\n\
             the curve is too steep there: knots too close for so large a step; or a number on the card was changed\n\
             the numbers at or beside that knot do not belong together, most often since one was changed: make the card anew; if a fit says it, keep the sheet and report it\n\
-            it is before the first knot or after the last; the last log's own hour is not on the card\n\
+            it is before the first knot or after the last; a log's knot stands in its middle, so the first log's first half and the last log's second half are not on the card\n\
             the log is damaged at that byte\n\
             the sensor was dead: leave this log out\n\
             the file is damaged there, or is another kind of file\n\
@@ -117,7 +117,7 @@ pub fn put_sentence(to: &mut [u8], at: usize, table: Table, n: u32) -> usize
             cut a longer log to one hour, leave out an empty one\n\
             no line can be laid to a hole before the first sound knot or behind the last: leave that knot out, or give it a number\n\
             the program that calls is wrong: it has to lend a list with a place for each hole (64 are always enough)\n\
-            \n\
+            a knot's minute is at most 65535, and a log's knot stands in its middle: look at the log's first minute\n\
             \n\
             \n\
             \n\
