@@ -4,6 +4,7 @@ use mathlib.Core.Path.{_≡_, refl}
 use mathlib.Core.List.{List, [], _∷_, map}
 use Prim.Native.Nat.{ℕ}
 use lib.IntN.{ℤ, pos}
+use lib.ListN.{replicate}
 use Rattle.whole.specs.Whole.{minus, beyond, nearest}
 use Rattle.answer.specs.Answer.{Answer, refused, given, _then_, refuse, each}
 use Rattle.curve.specs.Log.{count, sum, mean-of, long, readable, some-good, reachable, mean}
@@ -87,11 +88,18 @@ cases =
     ∷ (mean-from 60 (201 ∷ []) is refused 12 0)
     -- faults count in the length
     ∷ (mean-from 60 (100 ∷ 255 ∷ 255 ∷ 102 ∷ []) is given (pos 62 ∷ pos 5050 ∷ pos 2 ∷ []))
+    ∷ (mean-from 65_534 (100 ∷ 255 ∷ 255 ∷ 102 ∷ []) is refused 19 0)
     -- the last minute, and the one behind it: 12 and 13 go before 19
     ∷ (mean-from 65_534 (100 ∷ 102 ∷ []) is given (pos 65_535 ∷ pos 5050 ∷ pos 2 ∷ []))
     ∷ (mean-from 65_535 (100 ∷ 102 ∷ []) is refused 19 0)
     ∷ (mean-from 65_535 (255 ∷ 255 ∷ []) is refused 13 0)
     ∷ (mean-from 65_535 (100 ∷ 201 ∷ []) is refused 12 1)
+    -- the limits of a byte and of the length
+    ∷ (mean-from 60 (200 ∷ 255 ∷ []) is given (pos 61 ∷ pos 10_000 ∷ pos 1 ∷ []))
+    ∷ (mean-from 60 (200 ∷ 254 ∷ []) is refused 12 1)
+    ∷ (mean-from 60 [] is refused 16 0)
+    ∷ (mean-from 60 (replicate 60 100) is given (pos 90 ∷ pos 5000 ∷ pos 60 ∷ []))
+    ∷ (mean-from 60 (replicate 61 100) is refused 16 0)
     ∷ []
 
 pub hold : map (λ c. c .found) cases ≡ map (λ c. c .wanted) cases
