@@ -38,6 +38,9 @@ Accepts (given a) = Unit {0}
 pub not-both : {A : Type 0} {n p : ℕ} {a : A} → refused n p ≡ given a → ⊥
 not-both e = subst Accepts (sym e) tt
 
+pub given-same : {A : Type 0} {a b : A} → given a ≡ given b → a ≡ b
+given-same e = cc
+
 pub first-accepts : {A : Type 0} {a : A} (v : Verdict) (b : Answer A) → (v then b) ≡ given a → v ≡ accepted
 unfolding _then_
 first-accepts (refused n p) b e = absurd (not-both e)
