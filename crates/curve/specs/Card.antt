@@ -8,6 +8,10 @@ use lib.Dec.{eqb}
 use lib.ListN.{length, getD}
 use Rattle.curve.specs.Kind.{Spot, inner, end}
 
+-- a knot has "a minute x (0 to 65,535)": the last one
+abbrev pub latest : ℕ
+latest = 65_535
+
 -- minute, ordinate in hundredths, slope and curvature in card units
 pub record Knot : Type 0 where
   pub x : ℕ

@@ -88,11 +88,11 @@ unfolding Log-answers.answered number place
 mean-fields (refused n p) = (refl, refl, λ h. (refl, refl, refl))
 mean-fields (given m) = (refl, refl, λ h. absurd (h refl))
 
-pub mean-answers : (minute : ℕ) (log : List ℕ) {r : Mean} → r ≡ Log-answers.answered (Log.mean minute log) → Says (Log.mean minute log) (r .number) (r .place) × No-mean r
-mean-answers minute log e =
-    let v = Log.mean minute log in
+pub mean-answers : (first : ℕ) (log : List ℕ) {r : Mean} → r ≡ Log-answers.answered (Log.mean first log) → Says (Log.mean first log) (r .number) (r .place) × No-mean r
+mean-answers first log e =
+    let v = Log.mean first log in
     let f = mean-fields v in
-    subst (λ r. Says v (r .number) (r .place) × No-mean r) (sym e) (says v (mean-numbered minute log) (f .0) (f .1), f .2)
+    subst (λ r. Says v (r .number) (r .place) × No-mean r) (sym e) (says v (mean-numbered first log) (f .0) (f .1), f .2)
 
 -- ---- a fit
 

@@ -8,7 +8,8 @@ use lib.IntN.{pos}
 use lib.ListN.{length}
 use Rattle.whole.specs.Whole.{nearest}
 use Rattle.answer.specs.Answer.{given}
-use Rattle.curve.specs.Log.{latest, count, sum, middle, mean-of, mean}
+use Rattle.curve.specs.Card.{latest}
+use Rattle.curve.specs.Log.{count, sum, middle, mean-of, mean}
 use Rattle.curve.proofs.Middle.{stated}
 use Rattle.log.specs.declared.Mean.{Mean as Answered}
 use Rattle.log.specs.Answers.{answered}

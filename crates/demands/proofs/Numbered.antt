@@ -35,9 +35,9 @@ room-numbered needed lent = numbered-refuse 26 0 _ (lit< tt)
 
 -- ---- orders
 
-pub mean-numbered : (minute : ℕ) (log : List ℕ) → Never 0 (mean minute log)
+pub mean-numbered : (first : ℕ) (log : List ℕ) → Never 0 (mean first log)
 unfolding mean long readable some-good reachable
-mean-numbered minute log =
+mean-numbered first log =
     never-then (numbered-refuse 16 0 _ (lit< tt))
     (never-then (never-each 0 _ 0 (length log) (λ i l. numbered-refuse 12 i _ (lit< tt)))
     (never-then (numbered-refuse 13 0 _ (lit< tt)) (never-then (numbered-refuse 19 0 _ (lit< tt)) given-never)))

@@ -13,8 +13,8 @@ use Rattle.answer.specs.Answer.{Answer, accepted}
 use Rattle.front.specs.Front.{listed}
 use Rattle.curve.specs.Curve.{Order}
 use Rattle.curve.specs.Kind.{quintic, inner}
-use Rattle.curve.specs.Card.{Card, knots, knot}
-use Rattle.curve.specs.Log.{latest, count, sum, middle}
+use Rattle.curve.specs.Card.{latest, Card, knots, knot}
+use Rattle.curve.specs.Log.{count, sum, middle}
 use Rattle.curve.specs.Log as Log
 use Rattle.curve.specs.Orders.{write-order, reading-order}
 use Rattle.curve.specs.Exact.{Exact, Near}

@@ -7,7 +7,8 @@ use native.Mathlib.Omega.{arith}
 use lib.ListN.{length, getD}
 use Rattle.split.specs.Parts.{until, past, lines, words, bare}
 use Rattle.numeral.specs.Number.{natural}
-use Rattle.text.specs.Sheet.{latest, blamed-of, blamed-by, blamed}
+use Rattle.curve.specs.Card.{latest}
+use Rattle.text.specs.Sheet.{blamed-of, blamed-by, blamed}
 use Rattle.split.specs.declared.Mark.the-variants.{Blank, Word}
 use Rattle.split.proofs.Words.{no-word}
 use Rattle.text.proofs.Lines.{one, two, three}

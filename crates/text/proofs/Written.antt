@@ -25,7 +25,8 @@ use Rattle.numeral.specs.declared.Ordinate.{Ordinate}
 use Rattle.numeral.specs.declared.Ordinate.the-variants.{Given, Hole as Missing, Wrong}
 use Rattle.numeral.proofs.OneSpelling.{one-spelling, one-ordinate, one-hole}
 use Rattle.numeral.proofs.Spelled.{No-digits, digits-unmarked, some-digit, decimal-read, signed-read}
-use Rattle.text.specs.Sheet.{latest, knot-by, knot, line-by, line}
+use Rattle.curve.specs.Card.{latest}
+use Rattle.text.specs.Sheet.{knot-by, knot, line-by, line}
 use Rattle.text.specs.declared.Line.{Line}
 use Rattle.text.specs.declared.Line.the-variants.{Empty, Knot, Hole, Refused}
 

@@ -15,6 +15,7 @@ use Rattle.numeral.specs.declared.Ordinate.the-variants.{Given, Hole as Missing
 use Rattle.text.specs.declared.Line.{Line}
 use Rattle.text.specs.declared.Line.the-variants.{Empty, Knot, Hole, Refused}
 use Rattle.text.specs.declared.Sheet.{Sheet}
+use Rattle.curve.specs.Card.{latest}
 use Rattle.holes.specs.Hole.{hole}
 
 abbrev pub too-few : ℕ
@@ -29,10 +30,6 @@ too-long = 6
 -- where the sheet is not to be mended
 abbrev pub is-hole : ℕ
 is-hole = 7
-
--- the largest minute that can be written down
-abbrev pub latest : ℕ
-latest = 65535
 
 -- the minute is looked at first
 unfoldable pub knot-by : Number → Ordinate → Line

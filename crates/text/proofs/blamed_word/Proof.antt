@@ -4,7 +4,8 @@ use denote.Ref.{now}
 use borrow.Author.Needs.{needs}
 use Rattle.split.specs.Parts.{until, past, words}
 use Rattle.numeral.specs.Number.{natural}
-use Rattle.text.specs.Sheet.{latest, blamed-of, blamed-by}
+use Rattle.curve.specs.Card.{latest}
+use Rattle.text.specs.Sheet.{blamed-of, blamed-by}
 use Rattle.split.specs.declared.Mark.the-variants.{Blank, Word}
 use Rattle.text.proofs.Blames.{blames-none, blames-one, blames-two, blames-three}
 use Rattle.text.proofs.blamed_word.Statement.{statement}

@@ -7,7 +7,8 @@ use mir.Syntax.{w16}
 use borrow.Author.Needs.{needs}
 use Rattle.bytes.proofs.Signs.{passed}
 use Rattle.numeral.specs.Number.{natural}
-use Rattle.text.specs.Sheet.{latest, knot-by}
+use Rattle.curve.specs.Card.{latest}
+use Rattle.text.specs.Sheet.{knot-by}
 use Rattle.numeral.specs.declared.Number.the-variants.{Whole}
 use Rattle.numeral.proofs.Numbers.{natural-upto}
 use Rattle.text.proofs.Line.knot.Statement.{statement}
