@@ -1,0 +1,5 @@
+pub mod Standing
+pub mod Rooms
+pub mod Walks
+pub mod Runs
+pub mod Answers

@@ -1,0 +1,3 @@
+pub mod Book
+pub mod Lookup
+pub mod Steps
