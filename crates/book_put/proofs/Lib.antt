@@ -1,0 +1,4 @@
+pub mod Placing
+pub mod Bytes
+pub mod Splicing
+pub mod Answers
