@@ -6,3 +6,7 @@ use lib.ListN.{getD}
 -- a minute is a number of two bytes; behind the list zeros are read
 unfoldable pub Minutes : List ℕ → Type 0
 Minutes xs = (i : ℕ) → getD xs i 0 < 2 ^ 16
+
+-- and so is a room's
+unfoldable pub Room : ℕ → Type 0
+Room r = r < 2 ^ 16

@@ -19,7 +19,9 @@ ghost use Rattle.holes.specs.Hole.{mended};
 ghost use Rattle.mend.specs.Changes.{changes as changes-of};
 ghost use Rattle.mend.specs.Order.{mend};
 ghost use Rattle.mend.specs.Promise.{Mends};
-ghost use Rattle.kaihveto.specs.Types.{Minutes};
+ghost use Rattle.book.specs.Lookup.{spot};
+ghost use Rattle.book_put.specs.Put.{put, Puts};
+ghost use Rattle.kaihveto.specs.Types.{Minutes, Room};
 
 // The mean of a log from its first minute on, and the minute for which it stands: 16, 12, 13, 19.
 #[no_mangle]
@@ -160,6 +162,23 @@ pub extern "C" fn kaihveto_refit(
     ensures { λ r. ⌜ Refits (now (card .entry)) (now (slopes .entry)) (now (curvatures .entry)) (now (slopes .exit)) (now (curvatures .exit)) r ⌝ }
 {
     refit::refit(card, slopes, curvatures)
+}
+
+// Where the card of a room stands in a book: 14, 22, 20, then the card's own, its places counted in the card.
+#[no_mangle]
+pub extern "C" fn kaihveto_book_find(book: &[u8], room: u16) -> book::Spot
+    ensures { λ r. ⌜ r ≡ spot room (now (book .entry)) ⌝ }
+{
+    book::find(book, room)
+}
+
+// A card put into a book for a room, or in place of the one there: 14, 22, the new card's own, 21.
+#[no_mangle]
+pub extern "C" fn kaihveto_book_put(book: &mut [u8], room: u16, card: &[u8]) -> book::Used
+    ensures { λ r. ⌜ Puts (put room (now (card .entry)) (now (book .entry))) (now (book .entry)) (now (book .exit)) r ⌝ }
+    ensures typed { λ r. ⌜ Bytes (now (book .entry)) × Room room ⌝ }
+{
+    book_put::put(book, room, card)
 }
 
 // A sheet with holes mended and fitted between free ends, with the changes at the front of a list: 3, 1, 2; per knot 4, 5, 6; 17; 18; 8; 9; 10.
