@@ -1,0 +1,2 @@
+pub mod Inverse
+pub mod Kept
