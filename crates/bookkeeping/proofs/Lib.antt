@@ -1,2 +1,3 @@
 pub mod Inverse
 pub mod Kept
+pub mod Examples
