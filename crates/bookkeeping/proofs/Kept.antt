@@ -20,6 +20,7 @@ use Rattle.book.proofs.Runs.{gives, sound}
 use Rattle.book_put.specs.Put.{entry, put-in, made, put, after}
 use Rattle.book_put.proofs.Placing.{put-below, put-same, put-above}
 use Rattle.bookkeeping.specs.Every.{Every, nil, cons, Two-bytes}
+use Rattle.bookkeeping.specs.Card.{card-in}
 use Rattle.bookkeeping.proofs.Inverse.{run-two-bytes, rooms-of-bytes}
 
 -- ---- a list of rooms into which one is put
@@ -62,7 +63,7 @@ held-put d (e ∷ es) = go (tri (e .room) (d .room)) (held-put d es)
     go (same k) f = ap (held (d .room)) (put-same d e es k) ∙ first es
     go (above k) f = ap (held (d .room)) (put-above d e es k) ∙ first (e ∷ es)
 
--- "Each other room's card stays byte for byte", whether it is accepted or damaged
+-- and no other room's changes
 pub others-stay : (q : ℕ) (d : Entry) (es : List Entry) → q ≢ d .room → held q (put-in d es) ≡ held q es
 unfolding put-in held
 others-stay q d [] n = rw (ne-eqb (d .room) q (λ z. n (sym z)))
@@ -75,6 +76,16 @@ others-stay q d (e ∷ es) n = go (tri (e .room) (d .room)) (others-stay q d es 
     go (below k) f = ap (held q) (put-below d e es k) ∙ rw f
     go (same k) f = ap (held q) (put-same d e es k) ∙ past es ∙ sym (rw (ne-eqb (e .room) q (λ z. n (sym z ∙ k))))
     go (above k) f = ap (held q) (put-above d e es k) ∙ past (e ∷ es)
+
+-- ---- looking up, by what the rooms have
+
+look-up-in : (q : ℕ) (s : List ℕ) → look-up q s ≡ (card-in q s giving λ c. own c then given c)
+unfolding look-up _giving_
+look-up-in q s = go (book s)
+  where
+    go : (a : Answer (List Entry)) → (a giving λ es. held q es giving λ c. own c then given c) ≡ ((a giving held q) giving λ c. own c then given c)
+    go (refused n p) = refl
+    go (given es) = refl
 
 -- ---- an accepted put
 
@@ -128,14 +139,18 @@ module _ (r : ℕ) (c s : List ℕ) (b : Bytes s) (l : r < 2 ^ 16) where
       let h = ap (held r) (sym (p .new)) ∙ held-put (entry r c) (p .es) in
       rw (put-is-book e, h) (both-accept (p .passes) refl)
 
-  -- looking up any other gives what it gave before, also after a refusal: number, place and card
-  pub others-as-before : (q : ℕ) → q ≢ r → look-up q (after (put r c s) s) ≡ look-up q s
-  unfolding look-up _giving_ after
-  others-as-before q n = go (put r c s) refl
+  -- "Each other room's card stays byte for byte", accepted or damaged, and after a refusal too
+  pub cards-stay : (q : ℕ) → q ≢ r → card-in q (after (put r c s) s) ≡ card-in q s
+  unfolding _giving_ after
+  cards-stay q n = go (put r c s) refl
     where
-      go : (a : Answer (List Entry)) → put r c s ≡ a → look-up q (after a s) ≡ look-up q s
+      go : (a : Answer (List Entry)) → put r c s ≡ a → card-in q (after a s) ≡ card-in q s
       go (refused m p) e = refl
       go (given es) e =
           let p = was-put r c s e in
           let h = ap (held q) (sym (p .new)) ∙ others-stay q (entry r c) (p .es) n in
           rw (rw e at (put-is-book e), p .is, h)
+
+  -- so that looking it up gives what it gave before: number, place and card
+  pub others-as-before : (q : ℕ) → q ≢ r → look-up q (after (put r c s) s) ≡ look-up q s
+  others-as-before q n = look-up-in q (after (put r c s) s) ∙ ap (λ a. a giving λ k. own k then given k) (cards-stay q n) ∙ sym (look-up-in q s)

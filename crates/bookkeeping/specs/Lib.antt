@@ -1,1 +1,2 @@
 pub mod Every
+pub mod Card
