@@ -79,7 +79,7 @@ others-stay q d (e ∷ es) n = go (tri (e .room) (d .room)) (others-stay q d es 
 
 -- ---- looking up, by what the rooms have
 
-look-up-in : (q : ℕ) (s : List ℕ) → look-up q s ≡ (card-in q s giving λ c. own c then given c)
+pub look-up-in : (q : ℕ) (s : List ℕ) → look-up q s ≡ (card-in q s giving λ c. own c then given c)
 unfolding look-up _giving_
 look-up-in q s = go (book s)
   where
@@ -89,12 +89,12 @@ look-up-in q s = go (book s)
 
 -- ---- an accepted put
 
-within-limit : (bytes lent : ℕ) → (ltb most bytes || ltb lent bytes) ≡ false → bytes ≤ most
-within-limit bytes lent e = go (ltb most bytes) refl e
+fits-both : (bytes lent : ℕ) → (ltb most bytes || ltb lent bytes) ≡ false → (bytes ≤ most) × (bytes ≤ lent)
+fits-both bytes lent e = go (ltb most bytes) refl e
   where
-    go : (b : Bool) → ltb most bytes ≡ b → (b || ltb lent bytes) ≡ false → bytes ≤ most
+    go : (b : Bool) → ltb most bytes ≡ b → (b || ltb lent bytes) ≡ false → (bytes ≤ most) × (bytes ≤ lent)
     go true t e = absurd (true≢false e)
-    go false t e = ltb-false most bytes t
+    go false t e = (ltb-false most bytes t, ltb-false lent bytes e)
 
 pub record Was-put (r : ℕ) (c s : List ℕ) (es′ : List Entry) : Type 0 where
   pub es : List Entry
@@ -102,18 +102,21 @@ pub record Was-put (r : ℕ) (c s : List ℕ) (es′ : List Entry) : Type 0 wher
   pub passes : own c ≡ accepted
   pub new : put-in (entry r c) es ≡ es′
   pub within : size (put-in (entry r c) es) ≤ most
+  pub room : size (put-in (entry r c) es) ≤ length s
 
 pub was-put : (r : ℕ) (c s : List ℕ) {es′ : List Entry} → put r c s ≡ given es′ → Was-put r c s es′
 unfolding put made
 was-put r c s {es′} e =
     let g = gives (book s) _ e in
     let m = next-accepts (own c) _ (g .follows) in
+    let f = fits-both _ _ (refuse-accepts 21 0 _ (first-accepts (refuse 21 0 _) _ m)) in
     record {
       es = g .what;
       is = g .gave;
       passes = first-accepts (own c) _ (g .follows);
       new = given-same (next-accepts (refuse 21 0 _) _ m);
-      within = within-limit _ _ (refuse-accepts 21 0 _ (first-accepts (refuse 21 0 _) _ m));
+      within = f .0;
+      room = f .1;
     }
 
 -- ---- the buffer afterwards

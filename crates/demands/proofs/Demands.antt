@@ -1,10 +1,11 @@
 -- The page holds: each demand, of every call of the functions of the boundary, by their promises.
 -- Assumes nothing.
-use mathlib.Core.Path.{_≡_, sym, ap, ap₂, subst, _∙_}
+use mathlib.Core.Path.{_≡_, refl, sym, ap, ap₂, subst, _∙_}
+use mathlib.Core.Logic.{_≢_}
 use mathlib.Core.List.{List}
 use Prim.Native.Nat.{ℕ}
 use lib.ListN.{length}
-use Rattle.answer.specs.Answer.{accepted}
+use Rattle.answer.specs.Answer.{Answer, accepted, number, place}
 use Rattle.answer.proofs.Never.{given-never}
 use Rattle.curve.specs.Kind.{quintic}
 use Rattle.curve.specs.Card.{knots}
@@ -13,14 +14,16 @@ use Rattle.card_bytes.specs.Held.{card-of}
 use Rattle.card_bytes.proofs.RoundTrip.{accepted-card}
 use Rattle.card.specs.Answers.{own, read-off}
 use Rattle.table.specs.Promise.{table-verdict, Tables}
+use Rattle.book.specs.Lookup.{look-up, part}
 use Rattle.exact_fit.proofs.Solution.{one-exact}
-use Rattle.demands.specs.Calls.{A-fit, A-fit-between, without-ends, between-ends, buffer, A-check, checked-bytes, read-bytes, places, reading-bytes, minute, A-table, table-bytes, from, lists-for, lists-for′, first-minute, log}
+use Rattle.demands.specs.Calls.{A-fit, A-fit-between, without-ends, between-ends, buffer, A-check, checked-bytes, read-bytes, places, reading-bytes, minute, A-table, table-bytes, from, lists-for, lists-for′, first-minute, log, A-book-find, the-book, the-room, the-part, A-book-put, put-book, put-book′, put-room, put-card}
 use Rattle.demands.specs.Demands.{Fit-says, Room-for, Off, Demand-1, Demand-2, Demand-3, Demands}
 use Rattle.fit.proofs.Numbered.{codes-numbered}
 use Rattle.demands.proofs.Numbered.{accepts}
 use Rattle.demands.proofs.Answered.{mean-answers, fit-says, fit-spares, check-answers, read-answers, read-spares, write-answers, write-spares, reading-answers, table-answers, table-spares, refit-answers, refit-spares}
 use Rattle.demands.proofs.Given.{eliminates, mean-given}
 use Rattle.demands.proofs.MendedSheet.{mend-answers, mend-spares, mend-eliminates, one-mended-solution}
+use Rattle.demands.proofs.Books.{find-answers, put-answers, put-spares, leaves-a-book, is-found, others-cards, others-found, part-is, part-passes, find-never, puts-never}
 use Rattle.demands.proofs.RoundTrip.{written-accepted, written-held, accepts-its-card, takes, reads-its-card, made-again}
 use Rattle.demands.proofs.Off.{stands-on-a-gap, of-card, close, at-knots, on-its-card, in-table, table-counted, written-never, checked-never, read-never, read-off-never, table-never}
 
@@ -60,6 +63,11 @@ one =
       mend = λ c. mend-answers c .0;
       mend-zeros = λ c. mend-answers c .1;
       mend-spares = mend-spares;
+      book-find = λ c. find-answers (the-room c) (the-book c) (c .promised) .0;
+      book-find-zeros = λ c. find-answers (the-room c) (the-book c) (c .promised) .1;
+      book-put = λ c. put-answers (put-room c) (put-card c) (c .promised .0) .0;
+      book-put-zeros = λ c. put-answers (put-room c) (put-card c) (c .promised .0) .1;
+      book-put-spares = λ c. put-spares (put-room c) (put-card c) (c .promised .0);
     }
 
 -- ---- 2
@@ -67,6 +75,26 @@ one =
 -- bytes that the card test accepts
 tested : (c : A-check) → c .answer .number ≡ 0 → own (checked-bytes c) ≡ accepted
 tested c zero = accepts (check-answers (checked-bytes c) (c .promised .0) .0) zero
+
+-- what a search in a book answers is fixed by what is looked up
+finds : (f : A-book-find) {v : Answer (List ℕ)} → look-up (the-room f) (the-book f) ≡ v → (f .answer .number ≡ number v) × (f .answer .place ≡ place v) × (the-part f ≡ part v)
+finds f e =
+    let s = one .book-find f in
+    (s .number ∙ ap number e, s .place ∙ ap place e, part-is (the-room f) (the-book f) (f .promised) ∙ ap part e)
+
+found-again : (p : A-book-put) (f : A-book-find) → p .answer .number ≡ 0 → the-book f ≡ put-book′ p → the-room f ≡ put-room p → (f .answer .number ≡ 0) × (the-part f ≡ put-card p)
+unfolding number part
+found-again p f zero same room =
+    let w = finds f (ap₂ look-up room same ∙ is-found (put-room p) (put-card p) (p .promised .0) (p .promised .1 .0) (p .promised .1 .1) zero) in
+    (w .0, w .2)
+
+found-as-before : (p : A-book-put) (f g : A-book-find) → the-book f ≡ put-book p → the-book g ≡ put-book′ p → the-room g ≡ the-room f → the-room f ≢ put-room p
+    → (g .answer .number ≡ f .answer .number) × (g .answer .place ≡ f .answer .place) × (the-part g ≡ the-part f)
+found-as-before p f g same same′ room other =
+    let e = ap₂ look-up room same′ ∙ others-found (put-room p) (put-card p) (p .promised .0) (p .promised .1 .0) (p .promised .1 .1) (the-room f) other ∙ ap (look-up (the-room f)) (sym same) in
+    let w = finds g e in
+    let v = finds f refl in
+    (w .0 ∙ sym (v .0), w .1 ∙ sym (v .1), w .2 ∙ sym (v .2))
 
 two : Demand-2
 two =
@@ -84,6 +112,10 @@ two =
       checked-is-written = λ c r w zero same read-zero again long.
           made-again (checked-bytes c) (c .promised .1) (tested c zero)
           (again ∙ reads-its-card (r .promised) (accepts (read-answers (r .promised) .0) read-zero) ∙ ap card-of same) (w .promised .0) long;
+      put-leaves-a-book = λ p zero. leaves-a-book (put-room p) (put-card p) (p .promised .0) (p .promised .1 .0) (p .promised .1 .1) zero;
+      put-is-found = found-again;
+      cards-stay = λ p q n. others-cards (put-room p) (put-card p) (p .promised .0) (p .promised .1 .0) (p .promised .1 .1) q n;
+      others-as-before = found-as-before;
     }
 
 -- ---- 3
@@ -95,10 +127,8 @@ table-of t same = subst (λ s. Tables s (from t) (lists-for t) (lists-for′ t) 
 table-accepted : (t : A-table) {s : List ℕ} → table-bytes t ≡ s → t .answer .number ≡ 0 → table-verdict (lists-for t) s (from t) ≡ accepted
 table-accepted t same zero = accepts (table-answers (table-of t same) .0) zero
 
-off : (c : A-check) → c .answer .number ≡ 0 → Off (checked-bytes c)
-off c zero =
-    let s = checked-bytes c in
-    let a = tested c zero in
+off : (s : List ℕ) → own s ≡ accepted → Off s
+off s a =
     record {
       gaps = stands-on-a-gap (card-of s) (accepted-card quintic quintic-head s a);
       close = λ r same h. close s a (minute r) h (r .promised ∙ ap (λ s. read-off s (minute r)) same);
@@ -114,12 +144,15 @@ off c zero =
 three : Demand-3
 three =
     record {
-      off = off;
+      off = λ c zero. off (checked-bytes c) (tested c zero);
+      found-off = λ c zero. off (the-part c) (part-passes (the-room c) (the-book c) (c .promised) zero);
       write-never-10 = λ c half e. written-never half (length (buffer c)) (sym (one .write c .number) ∙ e);
       check-never-10 = λ c half e. checked-never (checked-bytes c) half (sym (one .check c .number) ∙ e);
       read-never-10 = λ c half e. read-never (read-bytes c) half (places c) (sym (one .read c .number) ∙ e);
       reading-never-10 = λ c half e. read-off-never (reading-bytes c) half (minute c) (sym (one .reading c .number) ∙ e);
       table-never-10 = λ c half e. table-never (table-bytes c) half (lists-for c) (from c) (sym (one .table c .number) ∙ e);
+      book-find-never-10 = λ c half e. find-never (the-room c) (the-book c) half (sym (one .book-find c .number) ∙ e);
+      book-put-never-10 = λ c half e. puts-never (put-room c) (put-card c) (put-book c) half (sym (one .book-put c .number) ∙ e);
       exact-solution = one-exact;
       mended-solution = one-mended-solution;
     }

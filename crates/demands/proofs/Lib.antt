@@ -3,6 +3,7 @@ pub mod Answered
 pub mod RoundTrip
 pub mod Off
 pub mod Given
+pub mod Books
 pub mod Demands
 pub mod FitToCard
 pub mod Written

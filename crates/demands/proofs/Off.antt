@@ -121,7 +121,7 @@ module _ {c : Card} (half : Half-a-unit c) where
       (other 26 0 _ tt))
 
 module _ (s : List ℕ) (half : Half-a-unit (card-of s)) where
-  own-never : Never 10 (own s)
+  pub own-never : Never 10 (own s)
   unfolding card-verdict card-order counted codes head-due records-due knot-due end-due due
   own-never =
       never-then (other 14 0 _ tt)

@@ -3,7 +3,7 @@
 use Prim.Native.Nat.{ℕ}
 use mathlib.Core.List.{List}
 use lib.IntN.{ℤ, pos}
-use lib.ListN.{length, getD}
+use lib.ListN.{length, getD, take, drop}
 use denote.Ref.{now}
 use Rattle.answer.specs.Answer.{Answer, Verdict, accepted}
 use Rattle.curve.specs.Kind.{quintic}
@@ -30,6 +30,8 @@ use Rattle.kaihveto.proofs.kaihveto_read.Reads as read
 use Rattle.kaihveto.proofs.kaihveto_reading.Reads as reading
 use Rattle.kaihveto.proofs.kaihveto_table.Reads as table
 use Rattle.kaihveto.proofs.kaihveto_refit.Reads as refit
+use Rattle.kaihveto.proofs.kaihveto_book_find.Reads as book-find
+use Rattle.kaihveto.proofs.kaihveto_book_put.Reads as book-put
 use Rattle.kaihveto.proofs.MendReads as mend
 
 -- a call that meets a promise: of lifetimes, arguments, the answer, and the parameters at exit
@@ -249,3 +251,36 @@ abbrev pub the-mending : A-mend → Answer Card
 the-mending c =
     let a = c .arguments in
     Order.mend (sheet-minutes c) (sheet c) (length (now (a .1 .1 .0))) (length (now (a .1 .1 .1 .0))) (length (change-list c))
+
+-- ---- kaihveto_book_find(book, room)
+
+abbrev pub A-book-find : Type 0
+A-book-find = Call book-find.Post
+
+abbrev pub the-book : A-book-find → List ℕ
+the-book c = now (c .arguments .0)
+
+abbrev pub the-room : A-book-find → ℕ
+the-room c = c .arguments .1 .0
+
+-- the part of the book that it points to
+abbrev pub the-part : A-book-find → List ℕ
+the-part c = take (c .answer .length) (drop (c .answer .start) (the-book c))
+
+-- ---- kaihveto_book_put(book, room, card)
+
+abbrev pub A-book-put : Type 0
+A-book-put = Call book-put.Post
+
+-- the book, at entry and at exit
+abbrev pub put-book : A-book-put → List ℕ
+put-book c = now (c .arguments .0)
+
+abbrev pub put-book′ : A-book-put → List ℕ
+put-book′ c = now (c .exit .0)
+
+abbrev pub put-room : A-book-put → ℕ
+put-room c = c .arguments .1 .0
+
+abbrev pub put-card : A-book-put → List ℕ
+put-card c = now (c .arguments .1 .1 .0)

@@ -31,7 +31,11 @@ use Rattle.card.specs.Answers.{own}
 use Rattle.card.specs.Promise.{Lists, into}
 use Rattle.table.specs.Promise.{table-verdict}
 use Rattle.refit.specs.Fresh as Fresh
-use Rattle.demands.specs.Calls.{A-mean, first-minute, log, A-fit, A-fit-between, Fitting, without-ends, between-ends, the-fit, A-write, written-card, buffer, buffer′, A-check, checked-bytes, A-read, read-bytes, places, places′, A-reading, reading-bytes, minute, three, A-table, table-bytes, from, lists-for, lists-for′, row, A-refit, refit-bytes, fresh-slopes, fresh-curvatures, fresh-slopes′, fresh-curvatures′, A-mend, sheet-minutes, sheet, sheet′, change-list, change-list′, of-the-mended, the-mending}
+use Rattle.book.specs.Book.{Entry, book-bytes, size, book}
+use Rattle.book.specs.Lookup.{look-up}
+use Rattle.book_put.specs.Put as Put
+use Rattle.bookkeeping.specs.Card.{card-in}
+use Rattle.demands.specs.Calls.{A-mean, first-minute, log, A-fit, A-fit-between, Fitting, without-ends, between-ends, the-fit, A-write, written-card, buffer, buffer′, A-check, checked-bytes, A-read, read-bytes, places, places′, A-reading, reading-bytes, minute, three, A-table, table-bytes, from, lists-for, lists-for′, row, A-refit, refit-bytes, fresh-slopes, fresh-curvatures, fresh-slopes′, fresh-curvatures′, A-mend, sheet-minutes, sheet, sheet′, change-list, change-list′, of-the-mended, the-mending, A-book-find, the-book, the-room, the-part, A-book-put, put-book, put-book′, put-room, put-card}
 
 -- ---- 1. "Every input gets an answer: bad knots, logs, cards and minutes are refused by number and place, the numbers beside a refusal are zero, and lent memory stays untouched."
 
@@ -83,6 +87,10 @@ pub record Demand-1 : Type 0 where
   pub refit : (c : A-refit) → Says (Fresh.refit (length (fresh-slopes c)) (length (fresh-curvatures c)) (refit-bytes c)) (c .answer .number) (c .answer .place)
   -- 3, 1, 2; per knot 4, 5, 6; 17; 18; then the fit's own
   pub mend : (c : A-mend) → Says (the-mending c) (c .answer .number) (c .answer .place)
+  -- 14, 22, 20, then the card's own
+  pub book-find : (c : A-book-find) → Says (look-up (the-room c) (the-book c)) (c .answer .number) (c .answer .place)
+  -- 14, 22, the new card's own, 21
+  pub book-put : (c : A-book-put) → Says (Put.put (put-room c) (put-card c) (put-book c)) (c .answer .number) (c .answer .place)
   -- "the numbers beside a refusal are zero"
   pub mean-zeros : (c : A-mean) → c .answer .number ≢ 0 → (c .answer .minute ≡ 0) × (c .answer .ordinate ≡ pos 0) × (c .answer .good ≡ 0)
   pub write-zeros : (c : A-write) → c .answer .number ≢ 0 → c .answer .bytes ≡ 0
@@ -92,6 +100,8 @@ pub record Demand-1 : Type 0 where
   pub table-zeros : (c : A-table) → c .answer .number ≢ 0 → c .answer .count ≡ 0
   pub refit-zeros : (c : A-refit) → c .answer .number ≢ 0 → (c .answer .knots ≡ 0) × (c .answer .changed ≡ 0)
   pub mend-zeros : (c : A-mend) → c .answer .number ≢ 0 → c .answer .count ≡ 0
+  pub book-find-zeros : (c : A-book-find) → c .answer .number ≢ 0 → (c .answer .start ≡ 0) × (c .answer .length ≡ 0)
+  pub book-put-zeros : (c : A-book-put) → c .answer .number ≢ 0 → c .answer .bytes ≡ 0
   -- "and lent memory stays untouched"; on acceptance only the n places, the card's bytes or the places of the readings are written
   pub fit-spares : (c : A-fit) → Fit-spares (without-ends c)
   pub fit-between-spares : (c : A-fit-between) → Fit-spares (between-ends c)
@@ -112,6 +122,7 @@ pub record Demand-1 : Type 0 where
       Spares (c .answer .number) (length (sheet-minutes c)) (sheet c) (sheet′ c)
       × Fit-spares (of-the-mended c)
       × Spares (c .answer .number) (c .answer .count) (change-list c) (change-list′ c)
+  pub book-put-spares : (c : A-book-put) → Spares (c .answer .number) (c .answer .bytes) (put-book c) (put-book′ c)
 
 -- ---- 2. "The fit is exactly the elimination that the paper prescribes, each operation rounded once; logs give the stated mean; writing a sound card and reading it returns it, and
 -- accepted bytes are those that the writer makes."
@@ -143,6 +154,13 @@ front n l left right = lent (take n (l .minutes)) (take n (l .ordinates)) (take 
 abbrev pub written-bytes : A-write → List ℕ
 written-bytes w = take (w .answer .bytes) (buffer′ w)
 
+-- a sound book at the front of a list, of these rooms, with n bytes in use
+pub record Holds-a-book (n : ℕ) (s : List ℕ) : Type 0 where
+  pub rooms : List Entry
+  pub is : book s ≡ Answer.given rooms
+  pub in-use : n ≡ size rooms
+  pub bytes : take n s ≡ book-bytes rooms
+
 pub record Demand-2 : Type 0 where
   -- "The fit is exactly the elimination that the paper prescribes, each operation rounded once"
   pub fit : (c : A-fit) → c .answer .number ≡ 0 → Eliminates (without-ends c)
@@ -162,6 +180,16 @@ pub record Demand-2 : Type 0 where
       → read-bytes r ≡ checked-bytes c → r .answer .number ≡ 0
       → written-card w ≡ front (r .answer .knots) (places′ r) (r .answer .left) (r .answer .right) → length (checked-bytes c) ≤ length (buffer w)
       → (w .answer .number ≡ 0) × (written-bytes w ≡ checked-bytes c)
+  -- and so in a book: what is left by a card that was put in is a sound book,
+  pub put-leaves-a-book : (p : A-book-put) → p .answer .number ≡ 0 → Holds-a-book (p .answer .bytes) (put-book′ p)
+  -- in which the card is found,
+  pub put-is-found : (p : A-book-put) (f : A-book-find) → p .answer .number ≡ 0 → the-book f ≡ put-book′ p → the-room f ≡ put-room p →
+      (f .answer .number ≡ 0) × (the-part f ≡ put-card p)
+  -- "Each other room's card stays byte for byte", accepted or damaged, refused puts too;
+  pub cards-stay : (p : A-book-put) (q : ℕ) → q ≢ put-room p → card-in q (put-book′ p) ≡ card-in q (put-book p)
+  -- and looking it up gives what it gave before
+  pub others-as-before : (p : A-book-put) (f g : A-book-find) → the-book f ≡ put-book p → the-book g ≡ put-book′ p → the-room g ≡ the-room f → the-room f ≢ put-room p →
+      (g .answer .number ≡ f .answer .number) × (g .answer .place ≡ f .answer .place) × (the-part g ≡ the-part f)
 
 -- ---- 3. "Off any accepted card, at any whole minute of it, the value is within half a hundredth and slope and curvature within half a card unit of the exact curve; at knots they are the
 -- card's own; third and fourth derivatives jump by no more than is allowed, whoever wrote the card; and no card within half a unit of an exact solution is refused for a jump."
@@ -203,12 +231,16 @@ pub record Half-a-unit (card : Card) : Type 0 where
 pub record Demand-3 : Type 0 where
   -- "Off any accepted card", "whoever wrote the card"
   pub off : (c : A-check) → c .answer .number ≡ 0 → Off (checked-bytes c)
+  -- and off each card that is found in a book
+  pub found-off : (c : A-book-find) → c .answer .number ≡ 0 → Off (the-part c)
   -- "and no card within half a unit of an exact solution is refused for a jump"
   pub write-never-10 : (c : A-write) → Half-a-unit (written-card c) → c .answer .number ≢ 10
   pub check-never-10 : (c : A-check) → Half-a-unit (card-of (checked-bytes c)) → c .answer .number ≢ 10
   pub read-never-10 : (c : A-read) → Half-a-unit (card-of (read-bytes c)) → c .answer .number ≢ 10
   pub reading-never-10 : (c : A-reading) → Half-a-unit (card-of (reading-bytes c)) → c .answer .number ≢ 10
   pub table-never-10 : (c : A-table) → Half-a-unit (card-of (table-bytes c)) → c .answer .number ≢ 10
+  pub book-find-never-10 : (c : A-book-find) → ((card : List ℕ) → card-in (the-room c) (the-book c) ≡ Answer.given card → Half-a-unit (card-of card)) → c .answer .number ≢ 10
+  pub book-put-never-10 : (c : A-book-put) → Half-a-unit (card-of (put-card c)) → c .answer .number ≢ 10
   -- and there is one for every sheet that a fit takes up: the exact solution between the fit's own ends, rounded to card units
   pub exact-solution : (minutes : List ℕ) (ordinates : List ℤ) (left right : End) → before-8 minutes ordinates left right ≡ accepted → OneSolution minutes ordinates left right
   -- the sheet that was mended has one
