@@ -10,7 +10,9 @@ use Rattle.answer.proofs.Steps.{not-both, given-same, first-accepts, next-accep
 use Rattle.card.specs.Answers.{own}
 use Rattle.book.specs.Book.{Entry, size, most, _giving_, book}
 use Rattle.book.specs.Lookup.{in-use, held, look-up, part, before, rooms, spot-at, spot}
-use Rattle.book.specs.Steps.{there, slot, walked}
+use Rattle.book.specs.Steps.{there, slot, walked-of, walked}
+use Rattle.book.specs.declared.Walked.{Walked}
+use Rattle.book.specs.declared.Walked.the-variants.{Sound as Sound-walk, Refused}
 use Rattle.book.specs.declared.Slot.{Slot}
 use Rattle.book.specs.declared.Spot.{Spot}
 use Rattle.book.specs.declared.Used.{Used}
@@ -18,6 +20,13 @@ use Rattle.book.proofs.Rooms.{nothing-there}
 use Rattle.book.proofs.Runs.{gives, Sound, sound, run-inside, Stands, stands-so, is-there}
 
 -- ---- the walk
+
+-- a slot, or a number and a place, belong to one answer only, so that a promise of them leaves one outcome
+pub one-walked : (a b : Walked) → walked-of a ≡ walked-of b → a ≡ b
+one-walked (Sound-walk m) (Sound-walk n) e = ap Sound-walk (given-same e)
+one-walked (Sound-walk m) (Refused n p) e = absurd (not-both (sym e))
+one-walked (Refused n p) (Sound-walk m) e = absurd (not-both e)
+one-walked (Refused n p) (Refused m q) e = cc
 
 -- it refuses where the book is refused
 pub walk-refused : (r : ℕ) (s : List ℕ) {n p : ℕ} → walked r s ≡ refused n p → book s ≡ refused n p

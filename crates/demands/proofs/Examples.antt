@@ -1,13 +1,14 @@
--- The page is of something: Table 3's card is accepted by the writer, its bytes by the card test, the reader, a reading and a table, and it is within half a unit of an exact solution.
+-- The page is of something: Table 3's card is accepted by the writer, its bytes by the card test, the reader, a reading and a table, and it is within half a unit of an exact solution; it is put into a
+-- book and found there.
 -- Assumes nothing.
 use mathlib.Core.Path.{_≡_, refl, sym, ap, subst}
-use mathlib.Core.List.{List}
+use mathlib.Core.List.{List, [], _∷_, _++_}
 use Prim.Native.Nat.{ℕ, zero, suc, _+_}
 use native.Mathlib.Omega.{arith}
 use borrow.Author.Tests.{le-ltb}
 use lib.Dec.{lit<, lit≤}
 use lib.IntN.{ℤ}
-use lib.ListN.{length, getD}
+use lib.ListN.{length, getD, length-append}
 use base.Fml.{Lft, GName}
 use denote.Ref.{RefT}
 use Rattle.answer.specs.Answer.{Answer, refused, given, accepted}
@@ -31,8 +32,17 @@ use Rattle.card.specs.Promise.{Lists, into}
 use Rattle.table.specs.Table.{table-order, tabled}
 use Rattle.table.specs.Promise.{Columns, table-verdict, rows}
 use Rattle.writer.specs.Promise.{written}
-use Rattle.kaihveto.specs.Types.{Minutes}
-use Rattle.demands.specs.Calls.{A-write, A-check, A-read, A-reading, A-table}
+use Rattle.bytes.specs.Numbers.{le, Bytes}
+use Rattle.bytes.proofs.Numbers.{length-le, bytes-append, le-bytes}
+use Rattle.record.specs.Record.{header}
+use Rattle.book.specs.Book.{book-bytes, size as book-size, _giving_}
+use Rattle.book.specs.Lookup.{in-use, spot}
+use Rattle.book_put.specs.Put as Put
+use Rattle.book_put.specs.Put.{entry, put-in, after}
+use Rattle.book_put.proofs.Answers.{fits}
+use Rattle.bookkeeping.proofs.Inverse.{no-room}
+use Rattle.kaihveto.specs.Types.{Minutes, Room}
+use Rattle.demands.specs.Calls.{A-write, A-check, A-read, A-reading, A-table, A-book-put, A-book-find}
 use Rattle.demands.specs.Demands.{Is-given, Room-for, On-the-card, Half-a-unit}
 use Rattle.demands.proofs.RoundTrip.{takes}
 use Rattle.demands.proofs.Written.{card-bytes}
@@ -101,6 +111,25 @@ unfolding table-verdict table-order lengths p1 table-3 knots knot
 tables =
     both-accept (accepts-refuse 3 0 refl)
     (both-accept bytes-accepted (rw (table-3-bytes .2) (card-in (p1 .minutes) 4 (minute-4 .0) (minute-4 .1))))
+
+-- a book of no room, with just the bytes behind it that the card's record takes
+abbrev empty-book : List ℕ
+empty-book = book-bytes [] ++ (bytes ++ le 6 0)
+
+pub empty-typed : Bytes empty-book
+unfolding book-bytes header
+empty-typed = bytes-append (le 2 0 ++ le 2 3) (bytes ++ le 6 0) (bytes-append (le 2 0) (le 2 3) (le-bytes 2 0) (le-bytes 2 3)) (bytes-append bytes (le 6 0) (card-bytes quintic-head p1) (le-bytes 6 0))
+
+pub room-typed : Room 3
+unfolding Room
+room-typed = lit< tt
+
+puts : Put.put 3 bytes empty-book ≡ given (entry 3 bytes ∷ [])
+unfolding Put.put _giving_ book-bytes header put-in book-size p1 table-3 knots
+puts =
+    let n : length empty-book ≡ 104 = simp (length-append, length-le, length-card) (omega arith) in
+    let k : length bytes ≡ 94 = length-card quintic-head p1 in
+    rw (no-room (bytes ++ le 6 0)) (both-accept bytes-accepted (fits (entry 3 bytes) (length empty-book) [] (omega arith) (omega arith)))
 
 module _ (lifetime : Lft) (pointer : ℕ × ℕ) (name : GName) where
   abbrev list : {A : Type 0} → List A → RefT (List A)
@@ -191,3 +220,27 @@ module _ (lifetime : Lft) (pointer : ℕ × ℕ) (name : GName) where
   pub table-accepts : table-call .answer .number ≡ 0
   unfolding tabled
   table-accepts = ap (λ v. tabled v (rows columns-for bytes 4) .number) tables
+
+  abbrev pub put-call : A-book-put
+  put-call =
+      let v = Put.put 3 bytes empty-book in
+      record {
+        lifetimes = (lifetime, (lifetime, tt));
+        arguments = (list empty-book, (3, (list bytes, tt)));
+        answer = in-use v;
+        exit = (list (after v empty-book), (3, (list bytes, tt)));
+        promised = (record { answer = refl; buffer = refl }, (empty-typed, room-typed));
+      }
+
+  pub put-accepts : put-call .answer .number ≡ 0
+  unfolding in-use
+  put-accepts = ap (λ v. in-use v .number) puts
+
+  -- and there it is found
+  abbrev pub find-call : A-book-find
+  find-call =
+      let s = after (Put.put 3 bytes empty-book) empty-book in
+      record { lifetimes = (lifetime, tt); arguments = (list s, (3, tt)); answer = spot 3 s; exit = (list s, (3, tt)); promised = refl }
+
+  pub find-accepts : find-call .answer .number ≡ 0
+  find-accepts = hold-all .two .put-is-found put-call find-call put-accepts refl refl .0

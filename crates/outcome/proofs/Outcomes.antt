@@ -153,6 +153,20 @@ use Rattle.mend.proofs.Plan.len.Reads as plan-len
 use Rattle.mend.proofs.Plan.answer.Reads as plan-answer
 use Rattle.mend.proofs.mend.Reads as mend
 use Rattle.mend.proofs.FillReads as fill
+use Rattle.moves.proofs.slide.Reads as slide
+use Rattle.moves.proofs.copy_in.Reads as copy-in
+use Rattle.book.specs.Book.{Entry}
+use Rattle.book.specs.declared.Used.{Used}
+use Rattle.book.proofs.Answers.{one-walked}
+use Rattle.book.proofs.step_at.Reads as book-step
+use Rattle.book.proofs.walk.Reads as book-walk
+use Rattle.book.proofs.Used.refused.Reads as used-refused
+use Rattle.book.proofs.check.Reads as book-check
+use Rattle.book.proofs.own.Reads as book-own
+use Rattle.book.proofs.find.Reads as book-find
+use Rattle.book.proofs.lookup.Reads as book-lookup
+use Rattle.book_put.specs.Put.{Puts}
+use Rattle.book_put.proofs.put.Reads as book-put
 use Rattle.kaihveto.proofs.kaihveto_mean.Reads as c-mean
 use Rattle.kaihveto.proofs.kaihveto_fit.Reads as c-fit
 use Rattle.kaihveto.proofs.kaihveto_fit_ends.Reads as c-fit-ends
@@ -162,6 +176,8 @@ use Rattle.kaihveto.proofs.kaihveto_read.Reads as c-read
 use Rattle.kaihveto.proofs.kaihveto_reading.Reads as c-reading
 use Rattle.kaihveto.proofs.kaihveto_table.Reads as c-table
 use Rattle.kaihveto.proofs.kaihveto_refit.Reads as c-refit
+use Rattle.kaihveto.proofs.kaihveto_book_find.Reads as c-book-find
+use Rattle.kaihveto.proofs.kaihveto_book_put.Reads as c-book-put
 use Rattle.kaihveto.proofs.MendReads as c-mend
 use Rattle.outcome.specs.Once.{Leaves, Once, Lent}
 
@@ -307,6 +323,13 @@ module _ {K A S : Type 0} (reply : K → A → Reply) (plan : K → A → Plan) 
         λ κs a x y s t p q. answers .2 κs a (x .answered) (y .answered) s t (p .answers) (q .answers),
       )
 
+module _ {K A S : Type 0} (rooms : K → A → Answer (List Entry)) (entry : K → A → List ℕ) (exit : S → List ℕ) where
+  abbrev Putting-in : K → A → Used → S → Type 0
+  Putting-in κs a x s = Puts (rooms κs a) (entry κs a) (exit s) x
+
+  putting-in : Once Putting-in × Lent Putting-in exit
+  putting-in = ((λ κs a x y s t p q. one-outcome (p .answer) (q .answer)), λ κs a x y s t p q. one-outcome (p .buffer) (q .buffer))
+
 -- ---- answers, rounding, the mean
 
 pub answer : Once refuse.Post × Once first.Post
@@ -379,6 +402,20 @@ card-tabled = tabling _ _ _ _
 -- the buffer is the seventh
 pub card-written : Once write.Post × Lent write.Post (λ s. now (s .1 .1 .1 .1 .1 .1 .0))
 card-written = writing _ _ _
+
+-- ---- a book
+
+-- the list is the first parameter, and the second
+pub moved : Lent slide.Post (λ s. now (s .0)) × Lent copy-in.Post (λ s. now (s .1 .0))
+moved = (equation _ _, equation _ _)
+
+-- the part that is handed back is told by its bytes
+pub book : Once book-step.Post × Once book-walk.Post × Once used-refused.Post × Once book-check.Post × Once book-own.Post × Once book-find.Post × Leaves book-lookup.Post (λ x s. now x)
+book = (equation _ _, (λ κs a x y s t p q. one-walked x y (one-outcome p q)), equation _ _, equation _ _, judgement _, equation _ _, equation _ _)
+
+-- the buffer is the first parameter
+pub put-in-a-book : Once book-put.Post × Lent book-put.Post (λ s. now (s .0))
+put-in-a-book = putting-in _ _ _
 
 -- ---- the fit
 
@@ -529,6 +566,12 @@ boundary-tabled = tabling _ _ _ _
 
 pub boundary-refit : Once c-refit.Post × Lent c-refit.Post (λ s. now (s .1 .0)) × Lent c-refit.Post (λ s. now (s .1 .1 .0))
 boundary-refit = refitting _ _ _ _ _
+
+pub boundary-found : Once c-book-find.Post
+boundary-found = equation _ _
+
+pub boundary-put-in : Once c-book-put.Post × Lent c-book-put.Post (λ s. now (s .0))
+boundary-put-in = let w = putting-in _ _ _ in (with-more _ _ (w .0), with-more _ _ (w .1))
 
 -- the list of changes is the last
 pub boundary-mended :
