@@ -116,12 +116,12 @@ pub enum Walked {
     Refused(u32, u32),
 }
 
-// Behind the closing record.
-fn closed(rising: Judged, slot: Slot) -> Walked
+// Where the walk ends: 14 over the whole book, then 22 over the whole book, then the slot behind the closing record.
+fn ended(records: Judged, rising: Judged, slot: Slot) -> Walked
     requires { ⌜ slot .bytes ≤ most ⌝ }
-    ensures { λ r. ⌜ walked-of r ≡ (verdict-of rising then given (closed slot)) ⌝ }
+    ensures { λ r. ⌜ walked-of r ≡ (verdict-of records then verdict-of rising then given (closed slot)) ⌝ }
 {
-    match rising {
+    match answer::first(records, rising) {
         Judged::Refused(number, place) => Walked::Refused(number, place),
         Judged::Accepted => Walked::Sound(Slot {
             bytes: slot.bytes + 4,
@@ -131,7 +131,7 @@ fn closed(rising: Judged, slot: Slot) -> Walked
     }
 }
 
-// 14 over the whole book, then 22 over the whole book: a 22 is told when the closing record is met.
+// A record after the other: a 22 is kept, and told where the closing record is met.
 pub fn walk(book: &[u8], room: u16) -> Walked
     ensures { λ r. ⌜ walked-of r ≡ walked room (now (book .entry)) ⌝ }
 {
@@ -142,10 +142,10 @@ pub fn walk(book: &[u8], room: u16) -> Walked
         let at = slot.bytes;
         match step_at(book, at) {
             Step::Wrong => {
-                return Walked::Refused(14, at as u32);
+                return ended(Judged::Refused(14, at as u32), rising, slot);
             }
             Step::Close => {
-                return closed(rising, slot);
+                return ended(Judged::Accepted, rising, slot);
             }
             Step::Room { room: here, next } => {
                 rising = answer::first(rising, answer::refuse(22, at as u32, (here as u32) < low));

@@ -30,13 +30,15 @@ loop-holds : tie.Need-loop-holds Inv-loop μ-loop
 loop-holds c = rw (c .none .ensures) (going-starts _ _)
 
 returns : tie.Need-returns Inv-loop μ-loop
+unfolding _then_
 returns c =
-    let w = told-wrong _ _ (c .before .before .step-at .ensures) (c .enum-told .given .1) in
-    going-wrong _ _ (c .before .before .before .loop .inv) (w .0) (w .1)
+    let w = told-wrong _ _ (c .before .before .before .step-at .ensures) (c .before .enum-told .given .1) in
+    c .ended .ensures ∙ going-wrong _ _ (c .before .before .before .before .loop .inv) (w .0) (w .1)
 
 returns-2 : tie.Need-returns-2 Inv-loop μ-loop
+unfolding _then_
 returns-2 c =
-    c .closed .ensures ∙ going-closed _ _ (c .before .before .before .before .loop .inv) (told-close _ _ (c .before .before .before .step-at .ensures) (c .before .enum-told2 .given .1))
+    c .ended2 .ensures ∙ going-closed _ _ (c .before .before .before .before .loop .inv) (told-close _ _ (c .before .before .before .step-at .ensures) (c .before .enum-told2 .given .1))
 
 past-requires : tie.Need-past-requires Inv-loop μ-loop
 past-requires c κs = let t = here (c .before .before) in omega (arith, t .end)
@@ -66,6 +68,7 @@ walk-spec =
     (λ c κs. search needs)
     (λ c. search needs)
     (λ c. omega (arith, c .before .before .before .loop .inv .within))
+    (λ c κs. c .before .before .before .loop .inv .within)
     returns
     (λ c. search needs)
     (λ c κs. c .before .before .before .loop .inv .within)
