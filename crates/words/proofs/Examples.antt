@@ -22,8 +22,10 @@ pub refusals :
     × (refused-line 14 90 0 ≡ said ": byte 90: refused 14: record is cut short, of the wrong kind or length, or bytes follow the end")
     × (refused-line 15 1 0 ≡ said ": end 1: refused 15: code of this end (0 left, 1 right) is not 0, 1 or 2")
     × (refused-line 17 0 2 ≡ said ":2: knot 0: refused 17: hole has no sound knot on one side") × (refused-line 18 0 0 ≡ said ": refused 18: list of changes has fewer places than there are holes")
+    × (refused-line 20 0 0 ≡ said ": refused 20: room is not in the book") × (refused-line 21 0 0 ≡ said ": refused 21: book would be over 16384 bytes, or over the lent buffer")
+    × (refused-line 22 16 0 ≡ said ": byte 16: refused 22: room number is not above the one before")
 unfolding spelled digits sentence at-line at-place refused-words refused-line
-refusals = (refl, refl, refl, refl, refl, refl)
+refusals = (refl, refl, refl, refl, refl, refl, refl, refl, refl)
 
 pub wrongs :
     (wrong-line 1 4 (spelled "5.5") ≡ said ":4: '5.5' is not a whole number; hundredths are whole: write 550 for 5.5 %")

@@ -21,7 +21,7 @@ row what place remedy = record { what = what; place = place; remedy = remedy }
 abbrev pub no-refusal : Row
 no-refusal = row "" "" ""
 
--- 0 to 19; no refusal has a number from 20 to 25; 26
+-- 0 to 22; no refusal has a number from 23 to 25; 26
 abbrev pub refusals : List Row
 refusals =
     (no-refusal
@@ -38,14 +38,17 @@ refusals =
     ∷ row "minute is outside the card" "" "it is before the first knot or after the last; a log's knot stands in its middle, so the first log's first half and the last log's second half are not on the card"
     ∷ row "log byte is from 201 to 254" "byte" "the log is damaged at that byte"
     ∷ row "log has no good byte" "" "the sensor was dead: leave this log out"
-    ∷ row "record is cut short, of the wrong kind or length, or bytes follow the end" "byte" "the file is damaged there, or is another kind of file"
+    ∷ row "record is cut short, of the wrong kind or length, or bytes follow the end" "byte" "the file is damaged there, or is another kind of file, or a book of more than 16384 bytes; of a card in a book the bytes count from the card's first"
     ∷ row "code of this end (0 left, 1 right) is not 0, 1 or 2" "end" "the card is damaged or comes from a newer program, or the calling program gave a wrong code"
     ∷ row "log has not 1 to 60 bytes" "" "cut a longer log to one hour, leave out an empty one"
     ∷ row "hole has no sound knot on one side" "knot" "no line can be laid to a hole before the first sound knot or behind the last: leave that knot out, or give it a number"
     ∷ row "list of changes has fewer places than there are holes" "" "the program that calls is wrong: it has to lend a list with a place for each hole (64 are always enough)"
     ∷ row "log's middle is behind minute 65535" "" "a knot's minute is at most 65535, and a log's knot stands in its middle: look at the log's first minute"
+    ∷ row "room is not in the book" "" "look at the room's number: kaihveto book list says which rooms are there, kaihveto book put puts one in"
+    ∷ row "book would be over 16384 bytes, or over the lent buffer" "" "put the card into a second book, or make it with fewer knots; a program that calls has to lend as many bytes as the book then has"
+    ∷ row "room number is not above the one before" "byte" "the record there is out of order, or its room is in the book already: make the book anew from the rooms' cards"
     ∷ [])
-    ++ replicate 6 no-refusal
+    ++ replicate 3 no-refusal
     ++ (row "lent buffer or lists are too short" "" "lend 14 + 16n bytes, or n places" ∷ [])
 
 -- what is wrong with a word of a sheet's text, or with the whole of it

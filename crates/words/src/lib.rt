@@ -54,9 +54,9 @@ pub fn put_sentence(to: &mut [u8], at: usize, table: Table, n: u32) -> usize
             hole has no sound knot on one side\n\
             list of changes has fewer places than there are holes\n\
             log's middle is behind minute 65535\n\
-            \n\
-            \n\
-            \n\
+            room is not in the book\n\
+            book would be over 16384 bytes, or over the lent buffer\n\
+            room number is not above the one before\n\
             \n\
             \n\
             \n\
@@ -88,7 +88,7 @@ pub fn put_sentence(to: &mut [u8], at: usize, table: Table, n: u32) -> usize
             \n\
             \n\
             \n\
-            \n\
+            byte\n\
             \n\
             \n\
             \n\
@@ -112,15 +112,15 @@ pub fn put_sentence(to: &mut [u8], at: usize, table: Table, n: u32) -> usize
             it is before the first knot or after the last; a log's knot stands in its middle, so the first log's first half and the last log's second half are not on the card\n\
             the log is damaged at that byte\n\
             the sensor was dead: leave this log out\n\
-            the file is damaged there, or is another kind of file\n\
+            the file is damaged there, or is another kind of file, or a book of more than 16384 bytes; of a card in a book the bytes count from the card's first\n\
             the card is damaged or comes from a newer program, or the calling program gave a wrong code\n\
             cut a longer log to one hour, leave out an empty one\n\
             no line can be laid to a hole before the first sound knot or behind the last: leave that knot out, or give it a number\n\
             the program that calls is wrong: it has to lend a list with a place for each hole (64 are always enough)\n\
             a knot's minute is at most 65535, and a log's knot stands in its middle: look at the log's first minute\n\
-            \n\
-            \n\
-            \n\
+            look at the room's number: kaihveto book list says which rooms are there, kaihveto book put puts one in\n\
+            put the card into a second book, or make it with fewer knots; a program that calls has to lend as many bytes as the book then has\n\
+            the record there is out of order, or its room is in the book already: make the book anew from the rooms' cards\n\
             \n\
             \n\
             \n\

@@ -25,7 +25,7 @@ pub(crate) enum Asked {
 // No number among the arguments is larger.
 const MOST: u32 = 65535;
 
-fn told(word: &[u8]) -> Asked {
+pub(crate) fn told(word: &[u8]) -> Asked {
     io::write_all(2, b"kaihveto: '");
     io::write_all(2, word);
     io::write_all(
@@ -35,10 +35,25 @@ fn told(word: &[u8]) -> Asked {
     Asked::Nothing
 }
 
-fn read(word: &[u8]) -> Asked {
+pub(crate) fn whole(word: &[u8]) -> Asked {
     match Number::natural(word, MOST) {
         Number::Whole(n) => Asked::Whole(n as u16),
-        Number::Bad(_) => told(word),
+        Number::Bad(_) => Asked::Nothing,
+    }
+}
+
+fn read(word: &[u8]) -> Asked {
+    match whole(word) {
+        Asked::Whole(n) => Asked::Whole(n),
+        Asked::Nothing => told(word),
+    }
+}
+
+// Whether a word that is no number is one in another spelling, or too large.
+pub(crate) fn nearly(word: &[u8]) -> bool {
+    match Number::natural(word, MOST) {
+        Number::Whole(_) => false,
+        Number::Bad(wrong) => wrong != Number::NOT_WHOLE,
     }
 }
 

@@ -1,16 +1,18 @@
-// What is done with a card's file: list, check, at, table, points.
+// What is done with a card, a file's or a room's in a book: list, check, at, table, points, and put into a book.
 use crate::arguments::Asked;
+use crate::rooms::Told;
 use answer::Judged;
 use decode::Card;
 use opened::Opened;
 
-// What is asked; `At` of how many arguments there are, `Table` every how many minutes.
+// What is asked; `At` of how many arguments there are, `Table` every how many minutes, `Put` for which room.
 enum Job {
     List,
     Check,
     At(usize),
     Table(u16),
     Points,
+    Put(u16),
 }
 
 fn list(name: &[u8], bytes: &[u8]) -> u8 {
@@ -92,16 +94,44 @@ fn with(name: &[u8], bytes: &[u8], job: Job) -> u8 {
     match job {
         Job::List => list(name, bytes),
         Job::At(count) => at(name, bytes, count),
+        Job::Put(room) => crate::books::put(name, bytes, room),
         _ => opened(name, bytes, job),
     }
+}
+
+fn with_room(name: &[u8], colon: usize, room: u16, job: Job) -> u8 {
+    let file = crate::tell::front(name, colon);
+    let mut bytes = io::large_buffer();
+    let got = crate::files::load(file, &mut bytes);
+    if got < 0 {
+        return crate::tell::FAILED;
+    }
+    let n = io::count(got, &bytes);
+    let looked = crate::books::look(file, &bytes[..n], room);
+    if looked != crate::tell::DONE {
+        return looked;
+    }
+    with(name, book::lookup(&bytes[..n], room), job)
+}
+
+// Only a name that no file has can be a room's; of any other file it is told why it cannot be read.
+fn without_file(name: &[u8], job: Job) -> u8 {
+    if crate::files::is_missing() {
+        if let Told::Room { room, colon } = crate::rooms::named(name) {
+            return with_room(name, colon, room, job);
+        }
+    }
+    crate::files::fail_to_load(name);
+    crate::rooms::tell_odd(name);
+    crate::tell::FAILED
 }
 
 // No card has more than 1,038 bytes, and what follows one is told by its first byte.
 fn with_file(name: &[u8], job: Job) -> u8 {
     let mut bytes = io::buffer();
-    let got = crate::files::load(name, &mut bytes);
+    let got = crate::files::load_file(name, &mut bytes);
     if got < 0 {
-        return crate::tell::FAILED;
+        return without_file(name, job);
     }
     let n = io::count(got, &bytes);
     with(name, &bytes[..n], job)
@@ -122,6 +152,11 @@ fn check(count: usize) -> u8 {
         i += 1;
     }
     status
+}
+
+// Argument 5's card.
+pub(crate) fn put(room: u16) -> u8 {
+    with_argument(5, Job::Put(room))
 }
 
 fn table(count: usize) -> u8 {

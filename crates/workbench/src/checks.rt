@@ -56,7 +56,12 @@ fn extremes(readings: Readings) -> Span {
     Span { lowest, highest }
 }
 
-fn last_minute(card: Card) -> u16 {
+pub(crate) fn first_minute(card: Card) -> u16 {
+    let minutes = card.minutes;
+    minutes[0]
+}
+
+pub(crate) fn last_minute(card: Card) -> u16 {
     let n = card.knots;
     let minutes = card.minutes;
     if n == 0 {
@@ -66,20 +71,21 @@ fn last_minute(card: Card) -> u16 {
     if last < Kind::MOST { minutes[last] } else { 0 }
 }
 
+// `18 knots, minute 0 to 1020`, behind what stands in the line.
+pub(crate) fn reach(line: Line, card: Card) -> Line {
+    line.count(card.knots as u64)
+        .words(b" knots, minute ")
+        .count(first_minute(card) as u64)
+        .words(b" to ")
+        .count(last_minute(card) as u64)
+}
+
 // `room3.card: ok, 18 knots, minute 0 to 1020, lowest -463 at 388, highest 10216 at 131`.
 fn summary(name: &[u8], card: Card, readings: Readings) -> u8 {
     let found = extremes(readings);
     let lowest = found.lowest;
     let highest = found.highest;
-    let knots = Line::new()
-        .words(b": ok, ")
-        .count(card.knots as u64)
-        .words(b" knots, minute ");
-    let minutes = knots
-        .count(readings.first as u64)
-        .words(b" to ")
-        .count(last_minute(card) as u64);
-    let low = minutes
+    let low = reach(Line::new().words(b": ok, "), card)
         .words(b", lowest ")
         .number(lowest.value)
         .words(b" at ")

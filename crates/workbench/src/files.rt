@@ -20,7 +20,8 @@ pub(crate) fn is_dash(path: &[u8]) -> bool {
     path.len() == 1 && path[0] == b'-'
 }
 
-fn load_file(path: &[u8], bytes: &mut [u8]) -> isize {
+// As `load`, with nothing told.
+pub(crate) fn load_file(path: &[u8], bytes: &mut [u8]) -> isize {
     if is_dash(path) {
         return load_from(0, bytes);
     }
@@ -33,8 +34,14 @@ fn load_file(path: &[u8], bytes: &mut [u8]) -> isize {
     got
 }
 
+// Whether what failed did so since there is no file of that name; no file has one that is too long.
+pub(crate) fn is_missing() -> bool {
+    let error = os::errno();
+    error == libc::ENOENT || error == libc::ENAMETOOLONG
+}
+
 // A name that does not fit into its buffer comes here as an empty one.
-fn fail_to_load(path: &[u8]) {
+pub(crate) fn fail_to_load(path: &[u8]) {
     if path.len() == 0 {
         os::fail(b"a name that is empty or longer than 4096 bytes");
         return;
@@ -96,7 +103,10 @@ fn save_by(path: &[u8], beside: &[u8], bytes: &[u8]) -> u8 {
 }
 
 fn too_long() -> u8 {
-    io::write_all(2, b"kaihveto: the name behind -o is too long\n");
+    io::write_all(
+        2,
+        b"kaihveto: the name of the new file is empty or too long\n",
+    );
     crate::tell::FAILED
 }
 
@@ -111,6 +121,14 @@ pub(crate) fn save(path: &[u8], bytes: &[u8]) -> u8 {
     let mut name = io::buffer();
     let n = beside(path, &mut name);
     save_by(path, crate::tell::front(&name, n), bytes)
+}
+
+// Bytes as a file where there is none: the name itself is made, which fails where it is taken, and renaming it to itself changes nothing.
+pub(crate) fn make(path: &[u8], bytes: &[u8]) -> u8 {
+    if path.len() == 0 {
+        return too_long();
+    }
+    save_by(path, path, bytes)
 }
 
 fn copy(to: i32) -> bool {

@@ -1,13 +1,15 @@
 // What stands behind the command `kaihveto`: workbench fit SHEET [CARD], mend SHEET [CARD], list CARD, check CARD .., at CARD MINUTE .., table CARD [EVERY], points CARD, mean MINUTE LOG, why NUMBER,
-// save FILE. Results go to standard output, complaints to standard error, and one byte to descriptor 3, since a program of Rattle has no exit status (`tell`). What is proved of the
+// book new BOOK, book list BOOK, book find BOOK ROOM [CARD], book put BOOK ROOM CARD, save FILE. A CARD that is read may be BOOK:ROOM. Results go to standard output, complaints to standard error, and one byte to descriptor 3, since a program of Rattle has no exit status (`tell`). What is proved of the
 // lines is said in the crates that are called; here every function is proved safe and ending.
 mod arguments;
+mod books;
 mod cards;
 mod checks;
 mod files;
 mod line;
 mod logs;
 mod numbers;
+mod rooms;
 mod sheets;
 mod tables;
 mod tell;
@@ -24,6 +26,9 @@ fn run(command: &[u8], count: usize) -> u8 {
     }
     if arguments::same(command, b"why") {
         return numbers::why();
+    }
+    if arguments::same(command, b"book") {
+        return books::run(count);
     }
     if arguments::same(command, b"save") {
         return files::save_input();

@@ -37,6 +37,14 @@ pub(crate) fn refused(name: &[u8], number: u32, place: u32) -> u8 {
     REFUSED
 }
 
+// The same of one room of a book.
+pub(crate) fn refused_in(file: &[u8], room: u16, number: u32, place: u32) -> u8 {
+    io::write_all(2, file);
+    io::write_all(2, b":");
+    io::print_decimal(2, room as u64);
+    refused(b"", number, place)
+}
+
 // The same of one minute of a card.
 pub(crate) fn refused_at(name: &[u8], minute: u16, number: u32, place: u32) -> u8 {
     io::write_all(2, name);

@@ -1,0 +1,256 @@
+// A book of the rooms' cards: made, listed, and a room's card found in it or put into it. Argument 3 is the book's file, argument 4 the room, argument 5 the card's file.
+use crate::arguments::Asked;
+use crate::line::Line;
+use answer::Judged;
+use book::Step;
+use book::Used;
+use decode::Card;
+use opened::Opened;
+
+// The number with which a book says that it has no such room.
+const ABSENT: u32 = 20;
+
+// A closing record alone.
+fn new() -> u8 {
+    let mut file = io::buffer();
+    let n = os::arg(3, &mut file);
+    crate::files::make(&file[..n], &[0, 0, 3, 0])
+}
+
+// ---- a line for each room
+
+// `3 18 0 1020`: the room, its knots, its first and its last minute.
+fn print_room(room: u16, card: Card) -> u8 {
+    let knots = Line::new()
+        .count(room as u64)
+        .words(b" ")
+        .count(card.knots as u64);
+    let line = knots
+        .words(b" ")
+        .count(crate::checks::first_minute(card) as u64)
+        .words(b" ")
+        .count(crate::checks::last_minute(card) as u64);
+    line.words(b"\n").print(b"")
+}
+
+fn list_card(file: &[u8], room: u16, bytes: &[u8]) -> u8 {
+    let opened = Opened::by_head(bytes);
+    let verdict = opened.verdict;
+    let card = opened.card;
+    match verdict {
+        Judged::Refused(number, place) => crate::tell::refused_in(file, room, number, place),
+        Judged::Accepted => print_room(room, card),
+    }
+}
+
+struct Listed {
+    status: u8,
+    rooms: usize,
+}
+
+// Each room of a book that is sound, also behind one whose card is refused.
+fn list_rooms(file: &[u8], bytes: &[u8]) -> Listed {
+    let mut status = crate::tell::DONE;
+    let mut rooms: usize = 0;
+    let mut at: usize = 0;
+    while at < bytes.len() {
+        let Step::Room { room, next } = book::step_at(bytes, at) else {
+            return Listed { status, rooms };
+        };
+        // a room's record is never shorter than that
+        if next < 6 {
+            return Listed { status, rooms };
+        }
+        if next - 6 < at {
+            return Listed { status, rooms };
+        }
+        let card = crate::rooms::part(bytes, at + 6, next);
+        status = crate::tell::graver(status, list_card(file, room, card));
+        rooms += 1;
+        at = next;
+    }
+    Listed { status, rooms }
+}
+
+// ` of 16384 bytes in use`, behind how many.
+fn in_use(line: Line, bytes: u32) -> Line {
+    line.count(bytes as u64)
+        .words(b" of ")
+        .count(Used::MOST as u64)
+        .words(b" bytes in use\n")
+}
+
+fn list(file: &[u8], bytes: &[u8]) -> u8 {
+    let used = book::check(bytes);
+    if used.number != 0 {
+        return crate::tell::refused(file, used.number, used.place);
+    }
+    let listed = list_rooms(file, bytes);
+    let line = Line::new()
+        .words(b"ok ")
+        .count(listed.rooms as u64)
+        .words(b", ");
+    crate::tell::graver(listed.status, in_use(line, used.bytes).print(b""))
+}
+
+// ---- a room's card
+
+// What the book itself is refused with is told of the book, 20 and what the card is refused with of the room.
+pub(crate) fn look(file: &[u8], bytes: &[u8], room: u16) -> u8 {
+    let used = book::check(bytes);
+    if used.number != 0 {
+        return crate::tell::refused(file, used.number, used.place);
+    }
+    let spot = book::find(bytes, room);
+    if spot.number != 0 {
+        return crate::tell::refused_in(file, room, spot.number, spot.place);
+    }
+    crate::tell::DONE
+}
+
+// A card that goes to standard output goes alone.
+fn save_card(file: &[u8], room: u16, card: &[u8]) -> u8 {
+    let mut to = io::buffer();
+    let n = os::arg(5, &mut to);
+    let saved = crate::files::save(&to[..n], card);
+    if saved != crate::tell::DONE || crate::files::is_dash(&to[..n]) {
+        return saved;
+    }
+    list_card(file, room, card)
+}
+
+fn find(file: &[u8], bytes: &[u8], room: u16, count: usize) -> u8 {
+    let looked = look(file, bytes, room);
+    if looked != crate::tell::DONE {
+        return looked;
+    }
+    let card = book::lookup(bytes, room);
+    if count < 6 {
+        return list_card(file, room, card);
+    }
+    save_card(file, room, card)
+}
+
+// ---- a book that is only read
+
+// `Find` with how many arguments there are.
+enum Job {
+    List,
+    Find(u16, usize),
+}
+
+fn with(job: Job) -> u8 {
+    let mut file = io::buffer();
+    let n = os::arg(3, &mut file);
+    let mut bytes = io::large_buffer();
+    let got = crate::files::load(&file[..n], &mut bytes);
+    if got < 0 {
+        return crate::tell::FAILED;
+    }
+    let k = io::count(got, &bytes);
+    match job {
+        Job::List => list(&file[..n], &bytes[..k]),
+        Job::Find(room, count) => find(&file[..n], &bytes[..k], room, count),
+    }
+}
+
+// ---- a card put in
+
+// `rooms.book: room 3: put in, 18 knots, minute 0 to 1020, 312 of 16384 bytes in use`.
+fn tell_put(file: &[u8], room: u16, replaced: bool, card: Card, bytes: u32) -> u8 {
+    let begun = Line::new().words(b": room ").count(room as u64);
+    let done = if replaced {
+        begun.words(b": replaced, ")
+    } else {
+        begun.words(b": put in, ")
+    };
+    let line = crate::checks::reach(done, card).words(b", ");
+    in_use(line, bytes).print(file)
+}
+
+// The file is made anew with the bytes in use; the buffer has room for every book, so that 21 is only ever said of the limit.
+fn put_sound(
+    file: &[u8],
+    book: &mut [u8],
+    replaced: bool,
+    room: u16,
+    bytes: &[u8],
+    card: Card,
+) -> u8 {
+    let used = book_put::put(book, room, bytes);
+    if used.number != 0 {
+        return crate::tell::refused(file, used.number, used.place);
+    }
+    let saved = crate::files::save(file, crate::tell::front(book, used.bytes as usize));
+    if saved != crate::tell::DONE {
+        return saved;
+    }
+    tell_put(file, room, replaced, card, used.bytes)
+}
+
+fn put_judged(
+    file: &[u8],
+    book: &mut [u8],
+    replaced: bool,
+    room: u16,
+    name: &[u8],
+    bytes: &[u8],
+) -> u8 {
+    let opened = Opened::by_head(bytes);
+    let verdict = opened.verdict;
+    let card = opened.card;
+    match verdict {
+        Judged::Refused(number, place) => crate::tell::refused(name, number, place),
+        Judged::Accepted => put_sound(file, book, replaced, room, bytes, card),
+    }
+}
+
+// A card by its name and its bytes. The book is judged by its file's own bytes: the zeros behind them in the buffer could end a record that is cut short.
+pub(crate) fn put(name: &[u8], card: &[u8], room: u16) -> u8 {
+    let mut file = io::buffer();
+    let n = os::arg(3, &mut file);
+    let mut bytes = io::large_buffer();
+    let got = crate::files::load(&file[..n], &mut bytes);
+    if got < 0 {
+        return crate::tell::FAILED;
+    }
+    let k = io::count(got, &bytes);
+    let used = book::check(&bytes[..k]);
+    if used.number != 0 {
+        return crate::tell::refused(&file[..n], used.number, used.place);
+    }
+    let replaced = book::find(&bytes[..k], room).number != ABSENT;
+    put_judged(&file[..n], &mut bytes, replaced, room, name, card)
+}
+
+// ---- which of them is asked for
+
+fn with_room(word: &[u8], room: u16, count: usize) -> u8 {
+    if crate::arguments::same(word, b"find") {
+        return with(Job::Find(room, count));
+    }
+    if crate::arguments::same(word, b"put") {
+        return crate::cards::put(room);
+    }
+    crate::tell::FAILED
+}
+
+fn named(word: &[u8], count: usize) -> u8 {
+    if crate::arguments::same(word, b"new") {
+        return new();
+    }
+    if crate::arguments::same(word, b"list") {
+        return with(Job::List);
+    }
+    match crate::arguments::number(4) {
+        Asked::Nothing => crate::tell::FAILED,
+        Asked::Whole(room) => with_room(word, room, count),
+    }
+}
+
+// By argument 2. What is not a number is told before a file is read.
+pub(crate) fn run(count: usize) -> u8 {
+    let mut word = io::buffer();
+    let n = os::arg(2, &mut word);
+    named(&word[..n], count)
+}
