@@ -65,7 +65,7 @@ pub fn step_at(book: &[u8], at: usize) -> Step
 
 // ---- one walk over a book
 
-// What a walk has met: the bytes behind it; where a room's record stands, or would stand; and its bytes there, 0 where it is absent.
+// What a walk has met: the bytes that it has passed; where a room's record stands, or would stand; and its bytes there, 0 where it is absent.
 pub struct Slot {
     pub bytes: usize,
     pub at: usize,
