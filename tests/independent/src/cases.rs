@@ -285,3 +285,214 @@ fn a_hole_is_6_for_fit_writer_and_card() {
     // Only the mark passes: one above it does not.
     assert_eq!(mended(&[0, 8, 16], &[0, HOLE + 1, 0], 3).0, 6);
 }
+
+/// A book's record of a room, around any bytes.
+fn room_record(room: u16, card: &[u8]) -> Vec<u8> {
+    [&(2 + card.len() as u16).to_le_bytes()[..], &[5, 0], &room.to_le_bytes(), card].concat()
+}
+
+/// A book of these rooms as they stand, rising or not.
+fn book_of(rooms: &[(u16, &[u8])]) -> Vec<u8> {
+    let mut book: Vec<u8> = rooms.iter().flat_map(|(room, card)| room_record(*room, card)).collect();
+    book.extend([0, 0, 3, 0]);
+    book
+}
+
+/// A card of 62 bytes and one of 78.
+fn two_cards() -> [Vec<u8>; 2] {
+    let card = |n: u16| {
+        let minutes: Vec<u16> = (0..n).map(|i| 2 * i).collect();
+        let ordinates: Vec<i16> = (0..n as i16).collect();
+        card_bytes(&minutes, &ordinates, &vec![2048; n.into()], &vec![0; n.into()], 0, 0)
+    };
+    [card(3), card(4)]
+}
+
+/// What putting in answers, number, place and bytes, a refused one having left the buffer.
+fn put(book: &mut [u8], room: u16, card: &[u8]) -> (u32, u32, u32) {
+    let before = book.to_vec();
+    let answer = book_put(book, room, card);
+    if answer.is_err() {
+        assert_eq!(book, before);
+    }
+    let (number, place) = number_and_place(answer);
+    (number, place, answer.unwrap_or(0))
+}
+
+fn found(book: &[u8], room: u16) -> (u32, u32, u32, u32) {
+    let answer = book_find(book, room);
+    let (number, place) = number_and_place(answer);
+    answer.map_or((number, place, 0, 0), |part| (0, 0, part.start, part.length))
+}
+
+#[test]
+fn a_book_with_no_room_is_sound() {
+    let [card, _] = two_cards();
+    for behind in [&[][..], &[7], &[0, 0, 3, 0], &[255; 90]] {
+        let mut book = [&[0, 0, 3, 0], behind].concat();
+        assert_eq!(found(&book, 0), (20, 0, 0, 0));
+        let wanted = if behind.len() < 68 { (21, 0, 0) } else { (0, 0, 72) };
+        assert_eq!(put(&mut book, 9, &card), wanted);
+    }
+    let mut book = [0xEE; 75];
+    book[..4].copy_from_slice(&[0, 0, 3, 0]);
+    assert_eq!(put(&mut book, 0x0109, &card), (0, 0, 72));
+    let start: [u8; 10] = [64, 0, 5, 0, 0x09, 0x01, 6, 0, 1, 0];
+    assert_eq!((&book[..10], &book[6..68], &book[68..]), (&start[..], &card[..], &[0, 0, 3, 0, 0xEE, 0xEE, 0xEE][..]));
+    assert_eq!(found(&book, 0x0109), (0, 0, 6, 62));
+    assert_eq!(found(&book, 0x0901), (20, 0, 0, 0));
+}
+
+#[test]
+fn a_books_own_records_are_14_at_their_offset() {
+    let [card, _] = two_cards();
+    let place = |book: &[u8]| {
+        let (number, place, ..) = found(book, 7);
+        // Putting in says the same, before the new card's own.
+        assert_eq!(put(&mut book.to_vec(), 7, &[]), if number == 14 { (14, place, 0) } else { (14, 0, 0) });
+        (number, place)
+    };
+    let short: [&[u8]; 4] = [&[], &[0], &[0, 0, 3], &[64, 0, 5, 0, 7]];
+    assert_eq!(short.map(place), [(14, 0); 4]);
+    // Kinds and lengths that are none, the bytes being there.
+    let wrong: [&[u8]; 6] = [&[0, 0, 0, 0], &[0, 0, 5, 0], &[1, 0, 5, 0, 7], &[1, 0, 3, 0, 7], &[2, 0, 4, 0, 7, 0], &[0, 0, 3, 1]];
+    assert_eq!(wrong.map(|first| place(&[first, &[0, 0, 3, 0]].concat())), [(14, 0); 6]);
+    let behind_a_room = |rest: &[u8]| place(&[&[2, 0, 5, 0, 6, 0], rest].concat());
+    assert_eq!([&[][..], &[0, 0, 3], &[1, 0, 5, 0, 7, 0, 0, 3, 0], &[6, 0, 1, 0]].map(behind_a_room), [(14, 6); 4]);
+    // Of a card's records the book reads none: this room's card has no byte, and its own refusal is 14 at 0.
+    assert_eq!(found(&[2, 0, 5, 0, 7, 0, 0, 0, 3, 0], 7), (14, 0, 0, 0));
+    assert_eq!(found(&[2, 0, 5, 0, 6, 0, 0, 0, 3, 0], 7), (20, 0, 0, 0));
+    // What is no card is no matter as long as another room is asked for.
+    assert_eq!(found(&book_of(&[(6, &[1, 2, 3]), (7, &card), (8, &[])]), 7), (0, 0, 15, 62));
+}
+
+#[test]
+fn rooms_that_do_not_rise_are_22_behind_every_14() {
+    let [card, _] = two_cards();
+    let place = |rooms: &[u16], cut: usize| {
+        let rooms: Vec<(u16, &[u8])> = rooms.iter().map(|&room| (room, &[][..])).collect();
+        let mut book = book_of(&rooms);
+        book.truncate(book.len() - cut);
+        let (number, place, ..) = found(&book, 7);
+        // Putting in says the same, before the new card's own.
+        assert_eq!(put(&mut book, 7, &card[1..]), if number == 20 { (14, 0, 0) } else { (number, place, 0) });
+        (number, place)
+    };
+    assert_eq!(place(&[7, 7], 0), (22, 6));
+    assert_eq!(place(&[7, 6], 0), (22, 6));
+    assert_eq!(place(&[0, 0], 0), (22, 6));
+    assert_eq!(place(&[1, 2, 2, 1], 0), (22, 12));
+    assert_eq!(place(&[255, 256, 65_535], 0), (20, 0));
+    assert_eq!(place(&[256, 255], 0), (22, 6));
+    assert_eq!(place(&[7, 7], 1), (14, 12));
+    assert_eq!(place(&[7, 6, 5], 4), (14, 18));
+}
+
+#[test]
+fn a_book_ends_at_16_384_at_the_latest() {
+    let place = |filling: usize| {
+        let mut book = book_of(&[(1, &vec![0; filling])]);
+        book.resize(20_000, 0);
+        let (number, place, ..) = found(&book, 2);
+        (number, place)
+    };
+    // The room's record has 6 bytes beside its card, the closing one 4.
+    assert_eq!(place(16_373), (20, 0));
+    assert_eq!(place(16_374), (20, 0));
+    assert_eq!(place(16_375), (14, 16_381));
+    assert_eq!(place(16_378), (14, 16_384));
+    assert_eq!(place(16_379), (14, 0));
+}
+
+#[test]
+fn a_card_found_is_tested_and_its_places_count_in_the_card() {
+    let [card, longer] = two_cards();
+    let mut steep = longer.clone();
+    steep[10 + 2 * 16 + 8 + 3] = 1;
+    let cut = &card[..61];
+    let book = book_of(&[(3, &card), (5, &steep), (6, cut), (65_535, &longer)]);
+    assert_eq!(found(&book, 3), (0, 0, 6, 62));
+    assert_eq!(found(&book, 5), (9, 2, 0, 0));
+    assert_eq!(found(&book, 6), (14, 58, 0, 0));
+    assert_eq!(found(&book, 65_535), (0, 0, 68 + 84 + 67 + 6, 78));
+    assert_eq!(found(&book, 4), (20, 0, 0, 0));
+    let minute_1 = reading(&book[225..225 + 78], 1);
+    assert_eq!(minute_1, reading(&longer, 1));
+}
+
+#[test]
+fn a_put_moves_the_rooms_behind_and_leaves_what_lies_behind_the_end() {
+    let [card, longer] = two_cards();
+    let (damaged, other) = ([9, 9, 9], [8]);
+    let mut book = book_of(&[(2, &damaged), (5, &card), (9, &other)]);
+    book.extend(100..150);
+    let before = book.clone();
+    // A new room before all others, between two, behind all; a longer card for a shorter; the damaged ones stay.
+    let mut at_0 = book.clone();
+    assert_eq!(put(&mut at_0, 0, &card), (21, 0, 0));
+    at_0.resize(300, 77);
+    for (room, rooms) in [
+        (0, vec![(0, &longer[..]), (2, &damaged), (5, &card), (9, &other)]),
+        (3, vec![(2, &damaged), (3, &longer), (5, &card), (9, &other)]),
+        (65_535, vec![(2, &damaged), (5, &card), (9, &other), (65_535, &longer)]),
+        (5, vec![(2, &damaged), (5, &longer), (9, &other)]),
+        (2, vec![(2, &longer), (5, &card), (9, &other)]),
+    ] {
+        let (mut put_into, made) = (at_0.clone(), book_of(&rooms));
+        assert_eq!(put(&mut put_into, room, &longer), (0, 0, made.len() as u32));
+        assert_eq!(put_into, [&made, &at_0[made.len()..]].concat());
+    }
+    // A shorter card for a longer: the old book's last bytes stay where they were.
+    assert_eq!(put(&mut book, 5, &longer), (0, 0, before.len() as u32 - 50 + 16));
+    let grown = book.clone();
+    assert_eq!(put(&mut book, 5, &card), (0, 0, before.len() as u32 - 50));
+    assert_eq!(book[..before.len() - 50], before[..before.len() - 50]);
+    assert_eq!(book[before.len() - 50..], grown[before.len() - 50..]);
+    // What is no card is refused as one, and before 21.
+    assert_eq!(put(&mut book_of(&[]), 5, &card[..61]), (14, 58, 0));
+    assert_eq!(put(&mut book_of(&[]), 5, &vec![0; 20_000]), (14, 0, 0));
+}
+
+#[test]
+fn a_put_is_21_by_the_book_that_it_would_make() {
+    let [card, longer] = two_cards();
+    // A full book: a card that is no longer than the one there may still be put in its place.
+    let filling = vec![0; 16_384 - 4 - 6 - 84];
+    let full = book_of(&[(1, &longer), (2, &filling)]);
+    assert_eq!(full.len(), 16_384);
+    for behind in [0, 1, 3_000] {
+        let full = [full.clone(), vec![5; behind]].concat();
+        assert_eq!(put(&mut full.clone(), 1, &longer), (0, 0, 16_384));
+        assert_eq!(put(&mut full.clone(), 1, &card), (0, 0, 16_368));
+        assert_eq!(put(&mut full.clone(), 3, &card), (21, 0, 0));
+        assert_eq!(put(&mut full.clone(), 2, &longer), (0, 0, 4 + 84 + 84));
+    }
+    for (size, wanted) in [(16_383, 0), (16_384, 0), (16_385, 21)] {
+        let mut book = book_of(&[(1, &card), (2, &vec![0; size - 4 - 6 - 84])]);
+        book.resize(17_000, 0);
+        assert_eq!(put(&mut book, 1, &longer).0, wanted);
+    }
+    // The same by the buffer.
+    for (length, wanted) in [(87, 21), (88, 0), (89, 0)] {
+        let mut book = book_of(&[(1, &card)]);
+        book.resize(length, 0);
+        assert_eq!(put(&mut book, 1, &longer).0, wanted);
+    }
+}
+
+#[test]
+fn fourteen_full_cards_go_into_one_book() {
+    let n = 64;
+    let minutes: Vec<u16> = (0..n).map(|i| 2 * i).collect();
+    let ordinates: Vec<i16> = (0..n as i16).collect();
+    let card = card_bytes(&minutes, &ordinates, &[2048; 64], &[0; 64], 0, 0);
+    let mut book = vec![3; 14_620];
+    book[..4].copy_from_slice(&[0, 0, 3, 0]);
+    for (count, room) in [7, 14, 1, 3, 2, 13, 9, 8, 10, 4, 6, 5, 12, 11].into_iter().enumerate() {
+        assert_eq!(put(&mut book, room, &card), (0, 0, 4 + 1_044 * (count as u32 + 1)));
+    }
+    for room in 1..=14 {
+        assert_eq!(found(&book, room), (0, 0, 6 + 1_044 * (u32::from(room) - 1), 1_038));
+    }
+    assert_eq!(put(&mut book, 15, &card), (21, 0, 0));
+}
