@@ -1,10 +1,14 @@
 /* The library for a process that cannot link it: takes calls on standard input and writes their answers on standard output, each as it lies in the memory of a
    little-endian machine. A call is a letter and its arguments in the order of kaihveto.h: a number in 8 bytes, a list as its length in 8 bytes and its elements. An
-   answer is the struct, and then each list that the function may write to. */
+   answer is the struct, and then each list that the function may write to. It ends with 1 and leaves the answer unfinished where a byte before or behind a list was written. */
 #include "kaihveto.h"
 
 #include <stdio.h>
 #include <stdlib.h>
+#include <string.h>
+
+/* Each list stands between so many bytes of a pattern. */
+enum { GUARD = 64, PAINT = 0xa5 };
 
 struct list {
     void *first;
@@ -38,11 +42,22 @@ static struct list list(size_t width) {
     struct list l;
     l.length = number();
     l.bytes = l.length * width;
-    l.first = malloc(l.bytes + width);
-    if (l.first == NULL)
+    uint8_t *guarded = malloc(l.bytes + 2 * GUARD);
+    if (guarded == NULL)
         exit(1);
+    memset(guarded, PAINT, GUARD);
+    memset(guarded + GUARD + l.bytes, PAINT, GUARD);
+    l.first = guarded + GUARD;
     take(l.first, l.bytes);
     return l;
+}
+
+static void drop(struct list l) {
+    uint8_t *guarded = (uint8_t *)l.first - GUARD;
+    for (size_t i = 0; i < GUARD; i++)
+        if (guarded[i] != PAINT || guarded[GUARD + l.bytes + i] != PAINT)
+            _Exit(1);
+    free(guarded);
 }
 
 static void give_back(struct list l) {
@@ -59,7 +74,7 @@ int main(void) {
             a = list(1);
             kaihveto_mean_answer r = kaihveto_mean((uint16_t)minute, a.first, a.length);
             give(&r, sizeof r);
-            free(a.first);
+            drop(a);
             break;
         }
         case 'f':
@@ -78,7 +93,7 @@ int main(void) {
             }
             give(&r, sizeof r);
             give_back(c), give_back(d);
-            free(a.first), free(b.first), free(c.first), free(d.first);
+            drop(a), drop(b), drop(c), drop(d);
             break;
         }
         case 'w': {
@@ -89,14 +104,14 @@ int main(void) {
                                                      (uint16_t)left, (uint16_t)right, e.first, e.length);
             give(&r, sizeof r);
             give_back(e);
-            free(a.first), free(b.first), free(c.first), free(d.first), free(e.first);
+            drop(a), drop(b), drop(c), drop(d), drop(e);
             break;
         }
         case 'c': {
             a = list(1);
             kaihveto_card_answer r = kaihveto_check(a.first, a.length);
             give(&r, sizeof r);
-            free(a.first);
+            drop(a);
             break;
         }
         case 'r': {
@@ -105,7 +120,7 @@ int main(void) {
                 kaihveto_read(e.first, e.length, a.first, a.length, b.first, b.length, c.first, c.length, d.first, d.length);
             give(&r, sizeof r);
             give_back(a), give_back(b), give_back(c), give_back(d);
-            free(a.first), free(b.first), free(c.first), free(d.first), free(e.first);
+            drop(a), drop(b), drop(c), drop(d), drop(e);
             break;
         }
         case 'o': {
@@ -113,7 +128,7 @@ int main(void) {
             uint64_t minute = number();
             kaihveto_reading_answer r = kaihveto_reading(a.first, a.length, (uint16_t)minute);
             give(&r, sizeof r);
-            free(a.first);
+            drop(a);
             break;
         }
         case 't': {
@@ -124,7 +139,7 @@ int main(void) {
                 kaihveto_table(e.first, e.length, (uint16_t)from, a.first, a.length, b.first, b.length, c.first, c.length);
             give(&r, sizeof r);
             give_back(a), give_back(b), give_back(c);
-            free(a.first), free(b.first), free(c.first), free(e.first);
+            drop(a), drop(b), drop(c), drop(e);
             break;
         }
         case 'a': {
@@ -132,7 +147,7 @@ int main(void) {
             kaihveto_refit_answer r = kaihveto_refit(e.first, e.length, c.first, c.length, d.first, d.length);
             give(&r, sizeof r);
             give_back(c), give_back(d);
-            free(c.first), free(d.first), free(e.first);
+            drop(c), drop(d), drop(e);
             break;
         }
         case 'h': {
@@ -141,7 +156,7 @@ int main(void) {
                 kaihveto_mend(a.first, a.length, b.first, b.length, c.first, c.length, d.first, d.length, e.first, e.length);
             give(&r, sizeof r);
             give_back(b), give_back(c), give_back(d), give_back(e);
-            free(a.first), free(b.first), free(c.first), free(d.first), free(e.first);
+            drop(a), drop(b), drop(c), drop(d), drop(e);
             break;
         }
         default:
