@@ -11,10 +11,13 @@
      KAIHVETO_BOTH_GIVEN       slope and curvature given
      KAIHVETO_CURVATURE_GIVEN  curvature given, fourth derivative zero
 
+   A book holds the cards of a hall's rooms, each behind the number of its room (0 to 65,535).
+
    Lists. A list is passed as a pointer and then its length, counted in elements. A list that a function may write to must
-   overlap no other list of the same call; lists that are only read may overlap one another. A pointer must be aligned for
-   its type. A list of length 0 has no element to point to: pass any pointer that is aligned and not NULL, as the address of
-   some variable of that type; nothing is read or written through it.
+   overlap no other list of the same call, as a card that is put into a book must not lie in that book; lists that are only
+   read may overlap one another. A pointer must be aligned for its type. A list of length 0 has no element to point to: pass
+   any pointer that is aligned and not NULL, as the address of some variable of that type; nothing is read or written through
+   it.
 
    Answers. Every answer starts with a number and a place. Number 0 is acceptance, with place 0. Any other number is a
    refusal: the fields behind number and place are then 0, and nothing has been written to any list. Knots and bytes count
@@ -43,7 +46,9 @@
 
    Time. A reading tests the whole card every time and only then looks up the minute: some 1 to 2 microseconds at 64 knots
    (docs/FIGURES.md, "Speed"). A controller that reads once a minute needs to keep nothing but the card's bytes. A table tests
-   the card once and then reads minute after minute. */
+   the card once and then reads minute after minute. A controller that keeps the hall's book instead finds its room's card with
+   kaihveto_book_find, which goes over the book's records and tests that one card, and hands book + start and length to
+   kaihveto_reading. */
 
 #ifndef KAIHVETO_H
 #define KAIHVETO_H
@@ -60,10 +65,12 @@ extern "C" {
    input gets another answer. MINOR rises where something is added and all else stays. The archive itself does not carry it:
    take both from one state of the sources.
 
+   2.1: books are added, kaihveto_book_find and kaihveto_book_put with the refusals 20, 21 and 22.
+
    2.0: kaihveto_mean answers the minute in the log's middle, where 1.2 answered the log's first, and has the refusal 19. Cards
    that were made with the first minutes lead the rooms by half a log, and are to be made anew. */
 #define KAIHVETO_VERSION_MAJOR 2
-#define KAIHVETO_VERSION_MINOR 0
+#define KAIHVETO_VERSION_MINOR 1
 
 /* The end codes. */
 #define KAIHVETO_FREE 0
@@ -90,6 +97,12 @@ extern "C" {
 #define KAIHVETO_LOG_LARGEST_GOOD 200
 #define KAIHVETO_LOG_FAULT 255
 
+/* The most bytes of a book, its closing record among them; how many of them a room takes whose card has n knots; and the bytes
+   of a book with no room, to begin with: uint8_t book[KAIHVETO_BOOK_MOST_BYTES] = KAIHVETO_EMPTY_BOOK; */
+#define KAIHVETO_BOOK_MOST_BYTES 16384
+#define KAIHVETO_BOOK_ROOM_BYTES(n) (6 + KAIHVETO_CARD_BYTES(n))
+#define KAIHVETO_EMPTY_BOOK {0, 0, 3, 0}
+
 /* The numbers of refusal. The place is 0 where none is named. */
 enum kaihveto_number {
     KAIHVETO_ACCEPTED = 0,             /* accepted */
@@ -106,12 +119,16 @@ enum kaihveto_number {
     KAIHVETO_MINUTE_OUTSIDE = 11,      /* minute outside the card */
     KAIHVETO_LOG_BYTE = 12,            /* log byte 201 to 254; place: the byte */
     KAIHVETO_NO_GOOD_BYTE = 13,        /* no good byte in the log */
-    KAIHVETO_RECORD = 14,              /* record cut short, of wrong kind or length, or bytes behind the end; place: its offset */
+    KAIHVETO_RECORD = 14,              /* record cut short, of wrong kind or length, or ending past a book's most bytes, or bytes
+                                          behind a card's end; place: its offset */
     KAIHVETO_END_CODE = 15,            /* end code not 0, 1, 2; place: 0 left, 1 right */
     KAIHVETO_LOG_LENGTH = 16,          /* log length not 1 to 60 */
     KAIHVETO_NO_SOUND_KNOT = 17,       /* a hole with no sound knot on one side; place: the hole */
     KAIHVETO_TOO_FEW_CHANGES = 18,     /* fewer places in the list of changes than holes */
     KAIHVETO_LOG_TOO_LATE = 19,        /* the log's middle is behind minute 65,535 */
+    KAIHVETO_ROOM_NOT_THERE = 20,      /* the book has no card for that room */
+    KAIHVETO_BOOK_FULL = 21,           /* the book would be over 16,384 bytes or over its buffer */
+    KAIHVETO_ROOM_NOT_RISING = 22,     /* room not above the one before; place: its record's offset in the book */
     KAIHVETO_NO_ROOM = 26              /* buffer under 14 + 16n bytes, or lists under n places */
 };
 
@@ -263,6 +280,40 @@ kaihveto_mend_answer kaihveto_mend(const uint16_t *minutes, size_t minutes_lengt
                                    int32_t *slopes, size_t slopes_length,
                                    int32_t *curvatures, size_t curvatures_length,
                                    kaihveto_change *changes, size_t changes_length);
+
+/* Looks up a room in a book. A book is made of records as a card is, each with the length of its body and its kind in two bytes
+   and two, little-endian: for every room one of kind 5, its body the room's number in two bytes and then the bytes of its card,
+   the numbers strictly rising; behind them a closing record of kind 3 and length 0. It has at most 16,384 bytes. What lies behind
+   the closing record is no part of it and may be anything, so book_length may be that of the buffer in which the book lies. On
+   acceptance the length bytes from book + start on are the room's card, which kaihveto_check accepts: they are what
+   kaihveto_reading takes, or any other function that reads a card, as long as nobody has written to the book since.
+   Refusals, in this order: 14 of the book's own records; 22; 20; those of kaihveto_check for that card, with places in the card
+   and not in the book. No other room's card is tested, and a 14 of the book's own comes for every room alike. Nothing is
+   written. */
+typedef struct {
+    uint32_t number;
+    uint32_t place;
+    uint32_t start;
+    uint32_t length;
+} kaihveto_book_find_answer;
+
+kaihveto_book_find_answer kaihveto_book_find(const uint8_t *book, size_t book_length, uint16_t room);
+
+/* Puts a card into a book, for a room that it does not have yet or in place of the card that the room has there, which may be
+   longer or shorter. book_length is the length of the buffer in which the book lies. On acceptance the new book stands at its
+   front, and every other room has the card that it had, byte for byte. The answer has how many bytes the book has then: 6 and
+   those of its card for each room, and 4. Behind these bytes nothing is written: if the book has become shorter, the last bytes
+   of the old one still stand there. The cards that are there are not tested, so a damaged one stays and is in nobody's way.
+   Refusals, in this order: 14 of the book's own records; 22; those of kaihveto_check for the new card; 21 where the new book
+   would be longer than 16,384 bytes or than the buffer. */
+typedef struct {
+    uint32_t number;
+    uint32_t place;
+    uint32_t bytes;
+} kaihveto_book_put_answer;
+
+kaihveto_book_put_answer kaihveto_book_put(uint8_t *book, size_t book_length, uint16_t room,
+                                           const uint8_t *card, size_t card_length);
 
 #ifdef __cplusplus
 }
