@@ -4,6 +4,7 @@
 
 use crate::boundary;
 use crate::reference::{self, End, Refusal};
+use std::collections::BTreeMap;
 use std::fmt::Write as _;
 
 /// How many differences are printed; the rest are counted.
@@ -16,13 +17,14 @@ const GUARD: usize = 5;
 pub struct Tally {
     pub comparisons: u64,
     pub differences: u64,
-    /// How often each number of refusal was the reference's answer.
-    pub numbers: [u64; 32],
+    /// How often each number of refusal was the reference's answer, by the function that was called.
+    pub met: BTreeMap<(&'static str, u32), u64>,
 }
 
 impl Tally {
     fn count<A: PartialEq + std::fmt::Debug>(
         &mut self,
+        function: &'static str,
         number: u32,
         ours: A,
         wanted: A,
@@ -30,14 +32,14 @@ impl Tally {
         input: impl FnOnce() -> String,
     ) {
         self.comparisons += 1;
-        self.numbers[number as usize] += 1;
+        *self.met.entry((function, number)).or_default() += 1;
         if ours == wanted && lists_alike {
             return;
         }
         self.differences += 1;
         if self.differences <= SHOWN {
             let lists = if lists_alike { "" } else { " (a lent list differs)" };
-            println!("{}\n  library   {ours:?}\n  reference {wanted:?}{lists}", input());
+            println!("{function} {}\n  library   {ours:?}\n  reference {wanted:?}{lists}", input());
         }
     }
 }
@@ -95,7 +97,7 @@ pub fn mean(tally: &mut Tally, first: u16, log: &[u8]) {
         Ok(mean) => boundary::Mean { minute: mean.minute.into(), ordinate: mean.ordinate, good: mean.good, ..Default::default() },
         Err(Refusal { number, place }) => boundary::Mean { number, place, ..Default::default() },
     };
-    tally.count(wanted.number, boundary::mean(first, log), wanted, true, || format!("mean from {first} of {}", hex(log)));
+    tally.count("mean", wanted.number, boundary::mean(first, log), wanted, true, || format!("from {first} of {}", hex(log)));
 }
 
 fn fitted(answer: &Result<(), Refusal>) -> boundary::Fitted {
@@ -113,8 +115,8 @@ pub fn fit(tally: &mut Tally, minutes: &[u16], ordinates: &[i16], lengths: [usiz
     let [mut wanted_slopes, mut wanted_curvatures] = lists;
     let wanted = reference::fit(minutes, ordinates, lent(&mut wanted_slopes), lent(&mut wanted_curvatures));
     let alike = slopes == wanted_slopes && curvatures == wanted_curvatures;
-    let input = || format!("fit {minutes:?} {ordinates:?} into {lengths:?}");
-    tally.count(number(&wanted), ours, fitted(&wanted), alike, input);
+    let input = || format!("{minutes:?} {ordinates:?} into {lengths:?}");
+    tally.count("fit", number(&wanted), ours, fitted(&wanted), alike, input);
 }
 
 /// The fit with ends, into lists of these lengths.
@@ -126,8 +128,8 @@ pub fn fit_ends(tally: &mut Tally, minutes: &[u16], ordinates: &[i16], lengths: 
     let [mut wanted_slopes, mut wanted_curvatures] = lists;
     let wanted = reference::fit_ends(minutes, ordinates, lent(&mut wanted_slopes), lent(&mut wanted_curvatures), left, right);
     let alike = slopes == wanted_slopes && curvatures == wanted_curvatures;
-    let input = || format!("fit_ends {minutes:?} {ordinates:?} into {lengths:?} with {left:?} {right:?}");
-    tally.count(number(&wanted), ours, fitted(&wanted), alike, input);
+    let input = || format!("{minutes:?} {ordinates:?} into {lengths:?} with {left:?} {right:?}");
+    tally.count("fit_ends", number(&wanted), ours, fitted(&wanted), alike, input);
 }
 
 /// The writer, into a buffer of this length.
@@ -142,8 +144,8 @@ pub fn write(tally: &mut Tally, minutes: &[u16], ordinates: &[i16], slopes: &[i3
         Err(Refusal { number, place }) => boundary::Written { number, place, ..Default::default() },
     };
     let alike = buffer == wanted_buffer;
-    let input = || format!("write {minutes:?} {ordinates:?} {slopes:?} {curvatures:?} {codes:?} into {length}");
-    tally.count(number(&wanted), ours, wanted_answer, alike, input);
+    let input = || format!("{minutes:?} {ordinates:?} {slopes:?} {curvatures:?} {codes:?} into {length}");
+    tally.count("write", number(&wanted), ours, wanted_answer, alike, input);
 }
 
 fn checked(answer: &Result<reference::Card, Refusal>) -> boundary::Checked {
@@ -157,7 +159,7 @@ fn checked(answer: &Result<reference::Card, Refusal>) -> boundary::Checked {
 
 pub fn check(tally: &mut Tally, card: &[u8]) {
     let wanted = reference::check(card);
-    tally.count(number(&wanted), boundary::check(card), checked(&wanted), true, || format!("check {}", hex(card)));
+    tally.count("check", number(&wanted), boundary::check(card), checked(&wanted), true, || hex(card));
 }
 
 /// The reader, into lists of these lengths.
@@ -167,8 +169,8 @@ pub fn read(tally: &mut Tally, card: &[u8], lengths: [usize; 4]) {
     let mut wanted = lists();
     let answer = boundary::read(card, lent(&mut ours.0), lent(&mut ours.1), lent(&mut ours.2), lent(&mut ours.3));
     let wanted_answer = reference::read(card, lent(&mut wanted.0), lent(&mut wanted.1), lent(&mut wanted.2), lent(&mut wanted.3));
-    let input = || format!("read {} into {lengths:?}", hex(card));
-    tally.count(number(&wanted_answer), answer, checked(&wanted_answer), ours == wanted, input);
+    let input = || format!("{} into {lengths:?}", hex(card));
+    tally.count("read", number(&wanted_answer), answer, checked(&wanted_answer), ours == wanted, input);
 }
 
 fn compare_reading(tally: &mut Tally, card: &[u8], minute: u16, wanted: Result<reference::Reading, Refusal>) {
@@ -176,7 +178,7 @@ fn compare_reading(tally: &mut Tally, card: &[u8], minute: u16, wanted: Result<r
         Ok(reading) => boundary::Reading { value: reading.value, slope: reading.slope, curvature: reading.curvature, ..Default::default() },
         Err(Refusal { number, place }) => boundary::Reading { number, place, ..Default::default() },
     };
-    tally.count(answer.number, boundary::reading(card, minute), answer, true, || format!("reading at {minute} off {}", hex(card)));
+    tally.count("reading", answer.number, boundary::reading(card, minute), answer, true, || format!("at {minute} off {}", hex(card)));
 }
 
 pub fn reading(tally: &mut Tally, card: &[u8], minute: u16) {
@@ -207,8 +209,8 @@ pub fn table(tally: &mut Tally, card: &[u8], from: u16, lengths: [usize; 3]) {
         Ok(count) => boundary::Tabled { count, ..Default::default() },
         Err(Refusal { number, place }) => boundary::Tabled { number, place, ..Default::default() },
     };
-    let input = || format!("table from {from} off {} into {lengths:?}", hex(card));
-    tally.count(wanted_answer.number, answer, wanted_answer, ours == wanted, input);
+    let input = || format!("from {from} off {} into {lengths:?}", hex(card));
+    tally.count("table", wanted_answer.number, answer, wanted_answer, ours == wanted, input);
 }
 
 /// A card fitted anew, into lists of these lengths.
@@ -223,7 +225,7 @@ pub fn refit(tally: &mut Tally, card: &[u8], lengths: [usize; 2]) {
         Err(Refusal { number, place }) => boundary::Refitted { number, place, ..Default::default() },
     };
     let alike = slopes == wanted_slopes && curvatures == wanted_curvatures;
-    tally.count(number(&wanted), ours, wanted_answer, alike, || format!("refit {} into {lengths:?}", hex(card)));
+    tally.count("refit", number(&wanted), ours, wanted_answer, alike, || format!("{} into {lengths:?}", hex(card)));
 }
 
 fn as_the_reference_has_it(change: boundary::Change) -> reference::Change {
@@ -257,6 +259,6 @@ pub fn mend(tally: &mut Tally, minutes: &[u16], sheet: &[i16], lengths: [usize; 
     let alike = ordinates == wanted_ordinates && slopes == wanted_slopes && curvatures == wanted_curvatures && changes == wanted_changes;
     let written = lent(&mut changes).get(..ours.count as usize);
     let came_back = written.and_then(|written| reference::put_back(lent(&mut ordinates), written)).as_deref() == Some(sheet);
-    let input = || format!("mend {minutes:?} {sheet:?} into {lengths:?} with {room} changes");
-    tally.count(number(&wanted), ours, wanted_answer, alike && came_back, input);
+    let input = || format!("{minutes:?} {sheet:?} into {lengths:?} with {room} changes");
+    tally.count("mend", number(&wanted), ours, wanted_answer, alike && came_back, input);
 }

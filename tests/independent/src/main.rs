@@ -1,4 +1,5 @@
-//! Without words: compares the library with the reference on many inputs, and ends with 1 where they differ.
+//! Without words: compares the library with the reference on many inputs, and ends with 1 where they differ or do not meet a number of
+//! refusal that they should.
 //! `vectors DIR`: runs the reference alone on the vectors of the two programs.
 //! `cases FILE`: prints the lines of the program `cases`, which are the reference's answers to a file of questions.
 
