@@ -159,6 +159,24 @@ int main(void) {
             drop(a), drop(b), drop(c), drop(d), drop(e);
             break;
         }
+        case 'l': {
+            a = list(1);
+            uint64_t room = number();
+            kaihveto_book_find_answer r = kaihveto_book_find(a.first, a.length, (uint16_t)room);
+            give(&r, sizeof r);
+            drop(a);
+            break;
+        }
+        case 'p': {
+            a = list(1);
+            uint64_t room = number();
+            e = list(1);
+            kaihveto_book_put_answer r = kaihveto_book_put(a.first, a.length, (uint16_t)room, e.first, e.length);
+            give(&r, sizeof r);
+            give_back(a);
+            drop(a), drop(e);
+            break;
+        }
         default:
             return 1;
         }

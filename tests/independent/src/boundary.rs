@@ -91,6 +91,25 @@ pub struct Mended {
     pub count: u32,
 }
 
+/// What kaihveto_book_find answers.
+#[repr(C)]
+#[derive(Clone, Copy, Debug, Default, PartialEq, Eq)]
+pub struct Spot {
+    pub number: u32,
+    pub place: u32,
+    pub start: u32,
+    pub length: u32,
+}
+
+/// What kaihveto_book_put answers.
+#[repr(C)]
+#[derive(Clone, Copy, Debug, Default, PartialEq, Eq)]
+pub struct Used {
+    pub number: u32,
+    pub place: u32,
+    pub bytes: u32,
+}
+
 /// An end as the boundary takes it: a code number and the two numbers beside it.
 #[derive(Clone, Copy, Debug)]
 pub struct End {
@@ -187,6 +206,8 @@ extern "C" {
         changes: *mut Change,
         changes_length: usize,
     ) -> Mended;
+    fn kaihveto_book_find(book: *const u8, book_length: usize, room: u16) -> Spot;
+    fn kaihveto_book_put(book: *mut u8, book_length: usize, room: u16, card: *const u8, card_length: usize) -> Used;
 }
 
 // Each call below passes pointers and lengths of slices that live until it returns and, where they are lent for writing, overlap no other.
@@ -310,4 +331,12 @@ pub fn mend(minutes: &[u16], ordinates: &mut [i16], slopes: &mut [i32], curvatur
             changes.len(),
         )
     }
+}
+
+pub fn book_find(book: &[u8], room: u16) -> Spot {
+    unsafe { kaihveto_book_find(book.as_ptr(), book.len(), room) }
+}
+
+pub fn book_put(book: &mut [u8], room: u16, card: &[u8]) -> Used {
+    unsafe { kaihveto_book_put(book.as_mut_ptr(), book.len(), room, card.as_ptr(), card.len()) }
 }

@@ -173,12 +173,16 @@ pub fn read(tally: &mut Tally, card: &[u8], lengths: [usize; 4]) {
     tally.count("read", number(&wanted_answer), answer, checked(&wanted_answer), ours == wanted, input);
 }
 
-fn compare_reading(tally: &mut Tally, card: &[u8], minute: u16, wanted: Result<reference::Reading, Refusal>) {
-    let answer = match wanted {
+fn read_off(answer: Result<reference::Reading, Refusal>) -> boundary::Reading {
+    match answer {
         Ok(reading) => boundary::Reading { value: reading.value, slope: reading.slope, curvature: reading.curvature, ..Default::default() },
         Err(Refusal { number, place }) => boundary::Reading { number, place, ..Default::default() },
-    };
-    tally.count("reading", answer.number, boundary::reading(card, minute), answer, true, || format!("at {minute} off {}", hex(card)));
+    }
+}
+
+fn compare_reading(tally: &mut Tally, card: &[u8], minute: u16, wanted: Result<reference::Reading, Refusal>) {
+    let wanted = read_off(wanted);
+    tally.count("reading", wanted.number, boundary::reading(card, minute), wanted, true, || format!("at {minute} off {}", hex(card)));
 }
 
 pub fn reading(tally: &mut Tally, card: &[u8], minute: u16) {
@@ -261,4 +265,44 @@ pub fn mend(tally: &mut Tally, minutes: &[u16], sheet: &[i16], lengths: [usize; 
     let came_back = written.and_then(|written| reference::put_back(lent(&mut ordinates), written)).as_deref() == Some(sheet);
     let input = || format!("{minutes:?} {sheet:?} into {lengths:?} with {room} changes");
     tally.count("mend", number(&wanted), ours, wanted_answer, alike && came_back, input);
+}
+
+/// A buffer as it is handed on in a message: how long it is, and its bytes as far as a small book goes.
+fn shown(buffer: &[u8]) -> String {
+    format!("{} bytes {}", buffer.len(), hex(&buffer[..buffer.len().min(300)]))
+}
+
+/// A room looked up.
+pub fn book_find(tally: &mut Tally, book: &[u8], room: u16) {
+    let wanted = match reference::book_find(book, room) {
+        Ok(reference::Part { start, length }) => boundary::Spot { start, length, ..Default::default() },
+        Err(Refusal { number, place }) => boundary::Spot { number, place, ..Default::default() },
+    };
+    tally.count("book_find", wanted.number, boundary::book_find(book, room), wanted, true, || format!("of {room} in {}", shown(book)));
+}
+
+/// A card put in; the buffer is left as the reference leaves it. Whether it was accepted.
+pub fn book_put(tally: &mut Tally, book: &mut [u8], room: u16, card: &[u8]) -> bool {
+    let mut ours = within_a_pattern(u8_pattern(book.len()), book);
+    let mut wanted = ours.clone();
+    let answer = boundary::book_put(lent(&mut ours), room, card);
+    let wanted_answer = match reference::book_put(lent(&mut wanted), room, card) {
+        Ok(bytes) => boundary::Used { bytes, ..Default::default() },
+        Err(Refusal { number, place }) => boundary::Used { number, place, ..Default::default() },
+    };
+    let input = || format!("of {} for {room} into {}", shown(card), shown(book));
+    tally.count("book_put", wanted_answer.number, answer, wanted_answer, ours == wanted, input);
+    book.copy_from_slice(lent(&mut wanted));
+    wanted_answer.number == 0
+}
+
+/// The part of the book that the library hands back for a room, beside the card that was put in for it; and the library's reading
+/// off that part, beside the reference's off that card.
+pub fn reading_in_book(tally: &mut Tally, book: &[u8], room: u16, card: &[u8], minute: u16) {
+    let spot = boundary::book_find(book, room);
+    let (start, end) = (spot.start as usize, spot.start as usize + spot.length as usize);
+    let part = book.get(start..end).unwrap_or(&[]);
+    let wanted = read_off(reference::reading(card, minute));
+    let input = || format!("at {minute} off room {room}, {spot:?}, in {}", shown(book));
+    tally.count("reading", wanted.number, boundary::reading(part, minute), wanted, part == card, input);
 }

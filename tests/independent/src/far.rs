@@ -1,7 +1,7 @@
 //! The library's functions on a machine that cannot link them, since the archive is for x86-64: each call goes to tests/c/far.c, which is linked with the archive and
 //! runs in a process of its own. KAIHVETO_FAR names that program, and KAIHVETO_RUN the command that runs it.
 
-use crate::boundary::{Change, Checked, Fitted, Mean, Mended, Reading, Refitted, Tabled, Written};
+use crate::boundary::{Change, Checked, Fitted, Mean, Mended, Reading, Refitted, Spot, Tabled, Used, Written};
 use std::env;
 use std::io::{BufReader, Read, Write};
 use std::mem::{size_of, MaybeUninit};
@@ -236,5 +236,16 @@ pub unsafe fn kaihveto_mend(
     far.list(slopes, slopes_length);
     far.list(curvatures, curvatures_length);
     far.list(changes, changes_length);
+    answer
+}
+
+pub unsafe fn kaihveto_book_find(book: *const u8, book_length: usize, room: u16) -> Spot {
+    Call::new(b'l').list(book, book_length).number(room.into()).made().answer()
+}
+
+pub unsafe fn kaihveto_book_put(book: *mut u8, book_length: usize, room: u16, card: *const u8, card_length: usize) -> Used {
+    let mut far = Call::new(b'p').list(book, book_length).number(room.into()).list(card, card_length).made();
+    let answer = far.answer();
+    far.list(book, book_length);
     answer
 }

@@ -1,5 +1,6 @@
 //! The inputs to compare on, in groups; the same in every run.
 
+use crate::books;
 use crate::compare::{self, Tally};
 use crate::curves::{self, Numbers, Sheet, Turn};
 use crate::random::Random;
@@ -592,7 +593,7 @@ fn mends(tally: &mut Tally, random: &mut Random) {
 
 /// The numbers that the comparisons of each function have to meet, so that inputs which no longer reach one of them are seen. 8 is
 /// missing, which no input is known to meet, and the fits' 10, which none of these does.
-const TO_BE_MET: [(&str, &[u32]); 10] = [
+const TO_BE_MET: [(&str, &[u32]); 12] = [
     ("mean", &[0, 16, 12, 13, 19]),
     ("fit", &[0, 3, 1, 2, 4, 5, 6, 9]),
     ("fit_ends", &[0, 3, 1, 2, 15, 4, 5, 6, 7, 9]),
@@ -603,6 +604,8 @@ const TO_BE_MET: [(&str, &[u32]); 10] = [
     ("table", &[0, 3, 14, 15, 4, 5, 6, 9, 10, 11]),
     ("refit", &[0, 3, 14, 1, 2, 15, 4, 5, 6, 9, 10, 26]),
     ("mend", &[0, 3, 1, 2, 4, 5, 6, 17, 18, 9]),
+    ("book_find", &[0, 14, 22, 20, 1, 2, 15, 4, 5, 6, 9, 10]),
+    ("book_put", &[0, 14, 22, 1, 2, 15, 4, 5, 6, 9, 10, 21]),
 ];
 
 /// Says which of them were not met, and whether all were.
@@ -621,7 +624,7 @@ type Group = fn(&mut Tally, &mut Random);
 
 /// Runs every group, prints the numbers, and says whether nothing differed and nothing was left unmet.
 pub fn all() -> bool {
-    let groups: [(&str, Group); 13] = [
+    let groups: [(&str, Group); 16] = [
         ("logs", logs),
         ("fits", fits),
         ("given numbers", given),
@@ -635,6 +638,9 @@ pub fn all() -> bool {
         ("tables", tables),
         ("cards fitted anew", refits),
         ("sheets with holes", mends),
+        ("bytes of books", books::bytes_of_books),
+        ("books about their limits", books::limits_of_books),
+        ("books in use", books::books_in_use),
     ];
     let mut tally = Tally::default();
     for (seed, (name, group)) in groups.iter().enumerate() {

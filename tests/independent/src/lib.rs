@@ -2,6 +2,8 @@
 //! functions (`boundary`), and the comparison of the two (`compare`). Nothing here is shared with the library.
 
 #[cfg(linked)]
+mod books;
+#[cfg(linked)]
 pub mod boundary;
 #[cfg(test)]
 mod cases;
