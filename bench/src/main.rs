@@ -1,6 +1,7 @@
-//! Times six functions of the library beside plain Rust that does the same with the same refusals: the fit of 64 knots, a
+//! Times eight functions of the library beside plain Rust that does the same with the same refusals: the fit of 64 knots, a
 //! reading off a card of 64 knots, the check of such a card, the mean of 60 bytes, the table of all minutes of such a card, the
-//! mending of a sheet of 64 knots with holes. The two are compared first. Rounds of the one and the other take turns; each number is the median round, in nanoseconds for one
+//! mending of a sheet of 64 knots with holes, and in a book of fourteen rooms with cards of 64 knots the lookup of the last room and
+//! the put for the first. The two are compared first. Rounds of the one and the other take turns; each number is the median round, in nanoseconds for one
 //! call, and of a table for one of its readings.
 
 mod plain;
@@ -13,6 +14,7 @@ use std::hint::black_box;
 use std::time::Instant;
 
 const KNOTS: usize = 64;
+const ROOMS: u16 = 14;
 const INPUTS: usize = 16;
 const ROUNDS: usize = 401;
 const ROUND_NANOSECONDS: f64 = 2e5;
@@ -23,6 +25,8 @@ struct Inputs {
     minutes: Vec<u16>,
     logs: Vec<Vec<u8>>,
     sheets: Vec<Sheet>,
+    books: Vec<Vec<u8>>,
+    short_card: Vec<u8>,
 }
 
 /// A sheet with some fifth of its knots holes that the reference mends.
@@ -42,9 +46,17 @@ fn sheet_with_holes(random: &mut Random) -> Sheet {
     }
 }
 
+/// A buffer as long as a book may be, with the rooms 1 to 14 and their cards.
+fn hall(cards: &[Vec<u8>], first: usize) -> Vec<u8> {
+    let card = |room: u16| cards[(first + usize::from(room)) % cards.len()].clone();
+    let mut book = reference::book_bytes(&(1..=ROOMS).map(|room| (room, card(room))).collect());
+    book.resize(reference::LONGEST_BOOK, 0);
+    book
+}
+
 fn inputs(random: &mut Random) -> Inputs {
     let cards: Vec<Numbers> = (0..INPUTS).map(|_| curves::fitted(random, KNOTS, 0, 0)).collect();
-    let bytes = cards.iter().map(Numbers::bytes).collect();
+    let bytes: Vec<Vec<u8>> = cards.iter().map(Numbers::bytes).collect();
     let minute = |card: &Numbers, random: &mut Random| {
         let minutes = &card.sheet.minutes;
         random.within(minutes[0].into(), minutes[KNOTS - 1].into()) as u16
@@ -53,7 +65,9 @@ fn inputs(random: &mut Random) -> Inputs {
     let byte = |random: &mut Random| if random.once_in(10) { 255 } else { random.within(0, 200) as u8 };
     let logs = (0..INPUTS).map(|_| (0..60).map(|_| byte(random)).collect()).collect();
     let sheets = (0..INPUTS).map(|_| sheet_with_holes(random)).collect();
-    Inputs { cards, bytes, minutes, logs, sheets }
+    let books = (0..INPUTS).map(|first| hall(&bytes, first)).collect();
+    let short_card = curves::fitted(random, 3, 0, 0).bytes();
+    Inputs { cards, bytes, minutes, logs, sheets, books, short_card }
 }
 
 /// The library and plain Rust, fitting one sheet into lists of a pattern, must leave the same.
@@ -95,6 +109,42 @@ fn same_mend(sheet: &Sheet, room: usize) {
     let wanted = plain::mend(&sheet.minutes, &mut other.0, &mut other.1, &mut other.2, &mut other.3);
     assert_eq!(answer, wanted, "mending of {sheet:?} with {room} changes");
     assert_eq!(ours, other, "mending of {sheet:?} with {room} changes");
+}
+
+/// The library and plain Rust, looking up a room and then putting a card in for it, must leave the same.
+fn same_book(book: &[u8], room: u16, card: &[u8]) {
+    assert_eq!(boundary::book_find(book, room), plain::book_find(book, room), "lookup of {room} in {book:?}");
+    let (mut ours, mut other) = (book.to_vec(), book.to_vec());
+    let answer = boundary::book_put(&mut ours, room, card);
+    assert_eq!(answer, plain::book_put(&mut other, room, card), "putting in for {room} into {book:?}");
+    assert_eq!(ours, other, "putting in for {room} into {book:?}");
+}
+
+/// Full books, cut, with a byte changed or two, in short buffers and long; and small ones changed at each byte.
+fn compare_books(inputs: &Inputs, random: &mut Random) {
+    let short = &inputs.short_card;
+    for (full, card) in inputs.books.iter().zip(&inputs.bytes) {
+        for turn in 0..60 {
+            let mut book = full[..random.pick(&[0, 5_000, 14_619, 14_620, 15_663, 15_664, full.len()])].to_vec();
+            for _ in 0..turn % 3 {
+                if let Some(byte) = book.get_mut(1_044 * random.below(15) + random.pick(&[0, 1, 2, 3, 4, 5, 20, 500])) {
+                    *byte ^= 1 << random.below(8);
+                }
+            }
+            same_book(&book, random.within(0, 16) as u16, random.pick(&[&short[..], card, &card[1..]]));
+        }
+    }
+    let rooms: [(u16, &[u8]); 3] = [(255, &[1, 2]), (256, short), (700, &[])];
+    let mut book = reference::book_bytes(&rooms.map(|(room, card)| (room, card.to_vec())).into());
+    book.resize(200, 9);
+    for at in 0..book.len() {
+        for change in 0..=255 {
+            let mut changed = book.clone();
+            changed[at] ^= change;
+            changed.truncate(random.pick(&[at, at + 1, 200, 200, 200, 200]));
+            same_book(&changed, random.pick(&[0, 255, 256, 700, 65_535]), short);
+        }
+    }
 }
 
 /// From the first minute of a card, of which each list has a place for all.
@@ -184,6 +234,7 @@ fn main() {
     let mut random = Random::new(2024);
     let inputs = inputs(&mut random);
     compare(&inputs, &mut random);
+    compare_books(&inputs, &mut random);
     println!("{:<36} {:>10} {:>14} {:>8}", "", "ours ns", "plain Rust ns", "ratio");
 
     let (mut slopes, mut curvatures) = ([0; KNOTS], [0; KNOTS]);
@@ -264,6 +315,32 @@ fn main() {
             other.0.copy_from_slice(&sheet.ordinates);
             black_box(plain::mend(&sheet.minutes, &mut other.0, &mut other.1, &mut other.2, &mut other.3));
             black_box(&other);
+        },
+    );
+
+    line(
+        "lookup of the last of 14 full rooms",
+        |i| {
+            black_box(boundary::book_find(black_box(&inputs.books[i]), black_box(ROOMS)));
+        },
+        |i| {
+            black_box(plain::book_find(black_box(&inputs.books[i]), black_box(ROOMS)));
+        },
+    );
+    // A short card for the first room and a full one again: the other thirteen rooms move up and down.
+    let (mut books, mut other_books) = (inputs.books.clone(), inputs.books.clone());
+    line_of(
+        2.0,
+        "put for the first of 14 full rooms",
+        |i| {
+            for card in [&inputs.short_card, &inputs.bytes[i]] {
+                black_box(boundary::book_put(black_box(&mut books[i]), black_box(1), black_box(card)));
+            }
+        },
+        |i| {
+            for card in [&inputs.short_card, &inputs.bytes[i]] {
+                black_box(plain::book_put(black_box(&mut other_books[i]), black_box(1), black_box(card)));
+            }
         },
     );
 }
