@@ -1,5 +1,6 @@
 /* Fits document 01's Table 3 through the C header, writes its card, checks it, reads it back and takes readings off it; then a
-   log's mean, and a sheet with two holes mended and put back. What it prints is held against reads_a_card.expected. */
+   log's mean, a sheet with two holes mended and put back, and a book of two rooms with a reading off the card that it holds for
+   one of them. What it prints is held against reads_a_card.expected. */
 
 #include <stdio.h>
 
@@ -71,5 +72,30 @@ int main(void)
         sheet[changes[i].place] = (int16_t)changes[i].old_number;
     }
     printf("put back: %d %d %d %d %d\n", sheet[0], sheet[1], sheet[2], sheet[3], sheet[4]);
+
+    const uint16_t line_minutes[3] = {0, 2, 4};
+    const int16_t line_ordinates[3] = {0, 1, 2};
+    const int32_t line_slopes[3] = {2048, 2048, 2048}, line_curvatures[3] = {0, 0, 0};
+    uint8_t line[KAIHVETO_CARD_BYTES(3)];
+    kaihveto_write(line_minutes, 3, line_ordinates, 3, line_slopes, 3, line_curvatures, 3, KAIHVETO_FREE, KAIHVETO_FREE, line,
+                   sizeof line);
+    uint8_t book[KAIHVETO_BOOK_MOST_BYTES] = KAIHVETO_EMPTY_BOOK;
+    kaihveto_book_put_answer put = kaihveto_book_put(book, sizeof book, 9, card, sizeof card);
+    printf("put in for room 9: %u at %u, %u bytes\n", put.number, put.place, put.bytes);
+    put = kaihveto_book_put(book, sizeof book, 3, line, sizeof line);
+    printf("put in for room 3: %u at %u, %u bytes\n", put.number, put.place, put.bytes);
+    kaihveto_book_find_answer found = kaihveto_book_find(book, sizeof book, 9);
+    printf("room 9: %u at %u, %u bytes from %u on\n", found.number, found.place, found.length, found.start);
+    reading = kaihveto_reading(book + found.start, found.length, 4);
+    printf("room 9, minute 4: %u at %u, value %d, slope %d, curvature %d\n", reading.number, reading.place, reading.value,
+           reading.slope, reading.curvature);
+    found = kaihveto_book_find(book, sizeof book, 4);
+    printf("room 4: %u at %u, %u bytes from %u on\n", found.number, found.place, found.length, found.start);
+    put = kaihveto_book_put(book, put.bytes, 4, line, sizeof line);
+    printf("put in for room 4, no byte left: %u at %u, %u bytes\n", put.number, put.place, put.bytes);
+    put = kaihveto_book_put(book, sizeof book, 4, card, sizeof card - 1);
+    printf("put in for room 4, a byte short: %u at %u, %u bytes\n", put.number, put.place, put.bytes);
+    put = kaihveto_book_put(book, sizeof book, 9, line, sizeof line);
+    printf("put in for room 9, a shorter card: %u at %u, %u bytes\n", put.number, put.place, put.bytes);
     return 0;
 }
