@@ -1,17 +1,18 @@
-/* How many bytes of stack each function takes at a card of 64 knots: the stack below a call is painted, the call is made, and what it painted over is counted. The
-   first call of each is not measured, since the loader binds symbols in it. Ends with 1 where a call is refused or takes 32 KiB. */
+/* How many bytes of stack each function takes at a card of 64 knots, the book's at fourteen rooms with such cards: the stack below a call is painted, the call is made, and what
+   it painted over is counted. The first call of each is not measured, since the loader binds symbols in it. Ends with 1 where a call is refused or takes 32 KiB. */
 #include "kaihveto.h"
 
 #include <stdio.h>
 
-enum { KNOTS = KAIHVETO_MOST_KNOTS, GAP = 10, MINUTES = GAP * (KNOTS - 1) + 1, DEPTH = 1 << 16, MOST = 1 << 15, PAINT = 0xa5 };
+enum { KNOTS = KAIHVETO_MOST_KNOTS, GAP = 10, MINUTES = GAP * (KNOTS - 1) + 1, ROOMS = 14, DEPTH = 1 << 16, MOST = 1 << 15, PAINT = 0xa5 };
 
 static uint16_t minutes[KNOTS];
 static int16_t ordinates[KNOTS];
 static int32_t slopes[KNOTS], curvatures[KNOTS];
 static int32_t table_values[MINUTES], table_slopes[MINUTES], table_curvatures[MINUTES];
 static kaihveto_change changes[KNOTS];
-static uint8_t card[KAIHVETO_CARD_BYTES(KNOTS)], log_bytes[60];
+static uint8_t card[KAIHVETO_CARD_BYTES(KNOTS)], short_card[KAIHVETO_CARD_BYTES(3)], log_bytes[60];
+static uint8_t book[KAIHVETO_BOOK_MOST_BYTES] = KAIHVETO_EMPTY_BOOK;
 
 static uint32_t mean(void) {
     return kaihveto_mean(0, log_bytes, sizeof log_bytes).number;
@@ -57,6 +58,18 @@ static uint32_t mend(void) {
     return r.count != 0 ? r.number : 1;
 }
 
+static uint32_t book_find(void) {
+    kaihveto_book_find_answer r = kaihveto_book_find(book, sizeof book, ROOMS);
+    return r.length == sizeof card ? r.number : 1;
+}
+
+/* A shorter card for the first room and the full one again, so that all the others move up and down. */
+static uint32_t book_put(void) {
+    uint32_t number = kaihveto_book_put(book, sizeof book, 1, short_card, sizeof short_card).number;
+    kaihveto_book_put_answer r = kaihveto_book_put(book, sizeof book, 1, card, sizeof card);
+    return r.bytes == ROOMS * KAIHVETO_BOOK_ROOM_BYTES(KNOTS) + 4 ? number | r.number : 1;
+}
+
 static void paint(void) {
     volatile uint8_t below[DEPTH];
     for (size_t i = 0; i < DEPTH; i++)
@@ -93,5 +106,11 @@ int main(void) {
     good &= line("table", table);
     good &= line("refit", refit);
     good &= line("mend", mend);
+    good &= kaihveto_fit(minutes, 3, ordinates, 3, slopes, 3, curvatures, 3).number == 0;
+    good &= kaihveto_write(minutes, 3, ordinates, 3, slopes, 3, curvatures, 3, KAIHVETO_FREE, KAIHVETO_FREE, short_card, sizeof short_card).number == 0;
+    for (uint16_t room = 1; room <= ROOMS; room++)
+        good &= kaihveto_book_put(book, sizeof book, room, card, sizeof card).number == 0;
+    good &= line("book_find", book_find);
+    good &= line("book_put", book_put);
     return good ? 0 : 1;
 }
