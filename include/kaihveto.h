@@ -14,10 +14,9 @@
    A book holds the cards of a hall's rooms, each behind the number of its room (0 to 65,535).
 
    Lists. A list is passed as a pointer and then its length, counted in elements. A list that a function may write to must
-   overlap no other list of the same call, as a card that is put into a book must not lie in that book; lists that are only
-   read may overlap one another. A pointer must be aligned for its type. A list of length 0 has no element to point to: pass
-   any pointer that is aligned and not NULL, as the address of some variable of that type; nothing is read or written through
-   it.
+   overlap no other list of the same call, so a card that goes into a book must not lie in that book; lists that are only read
+   may overlap one another. A pointer must be aligned for its type. A list of length 0 has no element to point to: pass any
+   pointer that is aligned and not NULL, as the address of some variable of that type; nothing is read or written through it.
 
    Answers. Every answer starts with a number and a place. Number 0 is acceptance, with place 0. Any other number is a
    refusal: the fields behind number and place are then 0, and nothing has been written to any list. Knots and bytes count
