@@ -35,13 +35,16 @@
    that has changed MXCSR restores it for the call; a program that is linked with -ffast-math may start in another mode. The four
    may set the flags of MXCSR. The other functions have no floating-point operation and answer alike in every mode.
 
-   Stack. Bytes that a call needs at 64 knots, measured and rounded up (docs/FIGURES.md, "Stack"); no proof bounds them. The
-   first call may need more, where the loader binds memcpy and memset in it.
+   Stack. Bytes that a call needs at 64 knots, in a book at fourteen rooms with as many, measured and rounded up
+   (docs/FIGURES.md, "Stack"); no proof bounds them. The first call may need more, where the loader binds memcpy and memset in
+   it.
 
-     kaihveto_mean      128        kaihveto_check    3,072        kaihveto_fit       8,192
-     kaihveto_write     512        kaihveto_read     4,096        kaihveto_fit_ends  8,192
-                                   kaihveto_reading  4,096        kaihveto_refit    10,240
-                                   kaihveto_table    4,096        kaihveto_mend     10,240
+     kaihveto_mean      128        kaihveto_check      3,072      kaihveto_fit       8,192
+     kaihveto_write     512        kaihveto_book_find  3,072      kaihveto_fit_ends  8,192
+                                   kaihveto_book_put   3,072      kaihveto_refit    10,240
+                                   kaihveto_read       4,096      kaihveto_mend     10,240
+                                   kaihveto_reading    4,096
+                                   kaihveto_table      4,096
 
    Time. A reading tests the whole card every time and only then looks up the minute: some 1 to 2 microseconds at 64 knots
    (docs/FIGURES.md, "Speed"). A controller that reads once a minute needs to keep nothing but the card's bytes. A table tests
