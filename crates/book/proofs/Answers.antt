@@ -2,10 +2,10 @@
 -- Assumes nothing.
 use Prim.Native.Nat.{ℕ, _+_, _-_, _≤_}
 use mathlib.Core.Path.{_≡_, refl, ap, sym, _∙_, subst}
-use mathlib.Core.List.{List, []}
+use mathlib.Core.List.{List}
 use native.Mathlib.Omega.{arith}
 use lib.ListN.{length, take, drop}
-use Rattle.answer.specs.Answer.{Answer, refused, given, Verdict, accepted, _then_}
+use Rattle.answer.specs.Answer.{Answer, refused, given, accepted, _then_}
 use Rattle.answer.proofs.Steps.{not-both, given-same, first-accepts, next-accepts, both-accept}
 use Rattle.card.specs.Answers.{own}
 use Rattle.book.specs.Book.{Entry, size, most, _giving_, book}

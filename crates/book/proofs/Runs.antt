@@ -1,12 +1,12 @@
 -- The records of a sound book, one after the other, and where a room's card stands among its bytes. Document 02, order 3.
 -- Assumes nothing.
-use Prim.Native.Nat.{ℕ, zero, suc, _+_, _-_, _≤_, _<_}
-use mathlib.Core.Path.{_≡_, refl, ap, sym, _∙_, subst}
+use Prim.Native.Nat.{ℕ, zero, suc, _+_, _-_, _≤_}
+use mathlib.Core.Path.{_≡_, refl, sym, _∙_, subst}
 use mathlib.Core.Bool.{Bool, true, false, cond}
 use mathlib.Core.List.{List, [], _∷_}
 use native.Mathlib.Omega.{arith}
 use lib.ListN.{length, take, drop}
-use Rattle.answer.specs.Answer.{Answer, refused, given, Verdict, _then_}
+use Rattle.answer.specs.Answer.{Answer, refused, given, _then_}
 use Rattle.answer.proofs.Steps.{not-both, given-same, first-accepts, next-accepts}
 use Rattle.bytes.specs.Numbers.{numAt}
 use Rattle.book.specs.Book.{Entry, long, size, most, next, closes, holds, entry-at, _giving_, scan, rising, book}

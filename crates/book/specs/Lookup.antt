@@ -21,7 +21,7 @@ unfoldable pub held : ℕ → List Entry → Answer (List ℕ)
 held r [] = refused 20 0
 held r (e ∷ es) = cond (eqb (e .room) r) (given (e .card)) (held r es)
 
--- "14 for the book's own records, then 22; lookup then 20, then that card's own, its places counted in the card"
+-- "14 for the book's own records (..), then 22; lookup then 20, then that card's own, its places counted in the card"
 unfoldable pub look-up : ℕ → List ℕ → Answer (List ℕ)
 look-up r s = book s giving (λ es. held r es giving (λ c. own c then given c))
 

@@ -46,6 +46,6 @@ abbrev pub walked-of : Walked → Answer Slot
 walked-of (Sound s) = given s
 walked-of (Refused n p) = refused n p
 
--- "14 for the book's own records, then 22"
+-- "14 for the book's own records (..), then 22"
 unfoldable pub walked : ℕ → List ℕ → Answer Slot
 walked r s = book s giving λ es. given (slot r es)

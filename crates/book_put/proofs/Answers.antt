@@ -1,19 +1,17 @@
 -- What putting a card in answers and leaves, case by case. Document 02, order 3.
 -- Assumes nothing.
 use Prim.Native.Nat.{ℕ, _+_, _-_, _≤_, _<_}
-use mathlib.Core.Path.{_≡_, refl, ap, sym, _∙_}
-use mathlib.Core.Bool.{true, false, _||_, or-true}
+use mathlib.Core.Path.{_≡_, ap, sym, _∙_}
+use mathlib.Core.Bool.{or-true}
 use mathlib.Core.List.{List, _++_}
 use native.Mathlib.Omega.{arith}
 use lib.ListN.{length, drop}
-use lib.Dec.{ltb}
 use borrow.Author.Tests.{lt-ltb, le-ltb}
-use Rattle.answer.specs.Answer.{Answer, refused, given, accepted, _then_, refuse}
+use Rattle.answer.specs.Answer.{Answer, refused, given, _then_, refuse}
 use Rattle.bytes.specs.Numbers.{Bytes}
 use Rattle.card.specs.Answers.{own}
-use Rattle.book.specs.Book.{Entry, entry-bytes, book-bytes, long, size, most, _giving_, book}
+use Rattle.book.specs.Book.{Entry, entry-bytes, book-bytes, size, most, _giving_, book}
 use Rattle.book.specs.Lookup.{in-use}
-use Rattle.book.specs.Steps.{walked}
 use Rattle.book.specs.declared.Slot.{Slot}
 use Rattle.book.specs.declared.Used.{Used}
 use Rattle.book.proofs.Answers.{Walks}

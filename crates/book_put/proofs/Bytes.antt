@@ -1,6 +1,6 @@
 -- The bytes of a book: how many there are, that a sound book is made of the bytes of its rooms, and those bytes after a room is put in. Document 02, order 3.
 -- Assumes nothing.
-use Prim.Native.Nat.{ℕ, _+_, _-_, _≤_}
+use Prim.Native.Nat.{ℕ, _+_, _-_}
 use mathlib.Core.Path.{_≡_, refl, ap, sym, _∙_}
 use mathlib.Core.Bool.{true}
 use mathlib.Core.List.{List, [], _∷_, _++_, append-assoc}
@@ -11,7 +11,7 @@ use Rattle.bytes.specs.Numbers.{le, numAt, Bytes}
 use Rattle.bytes.proofs.Numbers.{length-le, peel}
 use Rattle.record.specs.Record.{header}
 use Rattle.record.proofs.Records.{header-made, stands}
-use Rattle.book.specs.Book.{Entry, entry-bytes, book-bytes, long, size, next, closes, holds, entry-at}
+use Rattle.book.specs.Book.{Entry, entry-bytes, book-bytes, long, size, next, holds, entry-at}
 use Rattle.book.specs.Lookup.{before}
 use Rattle.book.specs.Steps.{there}
 use Rattle.book.proofs.Standing.{closing, holding, long-entry}

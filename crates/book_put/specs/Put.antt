@@ -24,7 +24,7 @@ put-in d (e ∷ es) = cond (ltb (e .room) (d .room)) (e ∷ put-in d es) (d ∷ 
 unfoldable pub made : Entry → (lent : ℕ) → List Entry → Answer (List Entry)
 made d lent es = let bytes = size (put-in d es) in refuse 21 0 (ltb most bytes || ltb lent bytes) then given (put-in d es)
 
--- "14 for the book's own records, then 22; putting in then the new card's own, then 21"
+-- "14 for the book's own records (..), then 22; (..) putting in then the new card's own, then 21"
 unfoldable pub put : ℕ → List ℕ → List ℕ → Answer (List Entry)
 put r c s = book s giving (λ es. own c then made (entry r c) (length s) es)
 

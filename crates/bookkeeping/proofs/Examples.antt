@@ -3,12 +3,12 @@ use Prim.Native.Nat.{ℕ, _+_}
 use mathlib.Core.Path.{_≡_, refl}
 use mathlib.Core.List.{List, [], _∷_, _++_}
 use lib.ListN.{replicate, length}
-use Rattle.answer.specs.Answer.{Answer, refused, given, _then_, refuse}
+use Rattle.answer.specs.Answer.{refused, given, _then_, refuse}
 use Rattle.bytes.specs.Numbers.{le, un, numAt}
 use Rattle.record.specs.Record.{header, isAt}
 use Rattle.curve.specs.Orders.{card-order}
 use Rattle.card_bytes.specs.Records.{due, head-due, card-verdict}
-use Rattle.book.specs.Book.{Entry, entry-bytes, book-bytes, size, most, closes, holds, entry-at, _giving_, scan, rising, book}
+use Rattle.book.specs.Book.{Entry, entry-bytes, book-bytes, size, closes, holds, entry-at, _giving_, scan, rising, book}
 use Rattle.book.specs.Lookup.{held, look-up, before, rooms, spot-at, spot}
 use Rattle.book.specs.declared.Spot.{Spot}
 use Rattle.book_put.specs.Put.{entry, put-in, made, put, after}

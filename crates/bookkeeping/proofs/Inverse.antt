@@ -3,10 +3,10 @@
 use Prim.Native.Nat.{ℕ, _+_, _-_, _≤_, _<_, _^_}
 use mathlib.Core.Path.{_≡_, refl, ap, sym, _∙_}
 use mathlib.Core.Bool.{Bool, true, false}
-use mathlib.Core.List.{List, [], _∷_, _++_, append-assoc}
+use mathlib.Core.List.{List, [], _++_, append-assoc}
 use native.Mathlib.Omega.{arith}
 use lib.Dec.{lit<}
-use lib.ListN.{length, take, drop, length-append, length-drop}
+use lib.ListN.{length, take, drop, length-append}
 use lib.Seq.{drop-drop, take-at, drop-at}
 use borrow.Author.Tests.{le-leb}
 use Rattle.answer.specs.Answer.{given}
@@ -14,11 +14,10 @@ use Rattle.bytes.specs.Numbers.{le, numAt, Bytes}
 use Rattle.bytes.proofs.Numbers.{length-le, stood, numAt-lt}
 use Rattle.record.specs.Record.{header, isAt}
 use Rattle.record.proofs.Records.{standing, header-stands}
-use Rattle.book.specs.Book.{Entry, entry-bytes, book-bytes, long, size, most, next, closes, holds, entry-at, book}
-use Rattle.book.specs.Lookup.{in-use}
+use Rattle.book.specs.Book.{Entry, entry-bytes, book-bytes, long, size, most, next, closes, entry-at, book}
 use Rattle.book.proofs.Standing.{holding, whole-holds, closes-within}
 use Rattle.book.proofs.Rooms.{Rises, nil as rises-nil}
-use Rattle.book.proofs.Runs.{Run, closed, further, Sound, sound, is-book}
+use Rattle.book.proofs.Runs.{Run, closed, further, sound, is-book}
 use Rattle.book_put.specs.Put.{entry}
 use Rattle.book_put.proofs.Bytes.{length-book, run-bytes}
 use Rattle.bookkeeping.specs.Every.{Every, nil, cons, Two-bytes}

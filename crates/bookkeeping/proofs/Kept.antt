@@ -1,10 +1,10 @@
 -- What a put leaves: a sound book in which the room has the new card and every other room is as it was; after a refusal all of it. Document 02, order 3.
 -- Assumes nothing.
-use Prim.Native.Nat.{ℕ, suc, _+_, _≤_, _<_, _^_}
+use Prim.Native.Nat.{ℕ, suc, _≤_, _<_, _^_}
 use mathlib.Core.Path.{_≡_, refl, ap, sym, _∙_}
 use mathlib.Core.Logic.{_≢_}
 use mathlib.Core.Bool.{Bool, true, false, _||_, true≢false}
-use mathlib.Core.List.{List, [], _∷_, _++_}
+use mathlib.Core.List.{List, [], _∷_}
 use native.Mathlib.Omega.{arith}
 use lib.ListN.{length, drop}
 use lib.Dec.{ltb}
@@ -13,7 +13,7 @@ use Rattle.answer.specs.Answer.{Answer, refused, given, accepted, _then_, refus
 use Rattle.answer.proofs.Steps.{given-same, first-accepts, next-accepts, both-accept, refuse-accepts}
 use Rattle.bytes.specs.Numbers.{Bytes}
 use Rattle.card.specs.Answers.{own}
-use Rattle.book.specs.Book.{Entry, book-bytes, size, most, _giving_, book}
+use Rattle.book.specs.Book.{Entry, size, most, _giving_, book}
 use Rattle.book.specs.Lookup.{held, look-up}
 use Rattle.book.proofs.Rooms.{Rises, nil as rises-nil, cons as rises-cons, Tri, below, same, above, tri}
 use Rattle.book.proofs.Runs.{gives, sound}

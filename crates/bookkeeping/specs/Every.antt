@@ -1,5 +1,5 @@
 -- What holds of every room of a list. Assumes nothing.
-use Prim.Native.Nat.{ℕ, _<_, _^_}
+use Prim.Native.Nat.{_<_, _^_}
 use mathlib.Core.List.{List, [], _∷_}
 use Rattle.book.specs.Book.{Entry}
 

@@ -9,12 +9,12 @@ use native.Mathlib.Omega.{arith}
 use lib.Dec.{eqb, lit<}
 use lib.ListN.{length, take, drop, length-append, length-drop}
 use lib.Seq.{take-at, drop-at}
-use Rattle.answer.specs.Answer.{Answer, refused, given, accepted, number, place, refuse, _then_}
+use Rattle.answer.specs.Answer.{Answer, refused, given, accepted, number, place, _then_}
 use Rattle.answer.proofs.Never.{Never, given-never, never-then, never-refuse, never-number}
 use Rattle.bytes.specs.Numbers.{Bytes}
 use Rattle.card_bytes.specs.Held.{card-of}
 use Rattle.card.specs.Answers.{own}
-use Rattle.book.specs.Book.{Entry, entry-at, book-bytes, size, most, closes, holds, next, _giving_, scan, rising, book}
+use Rattle.book.specs.Book.{Entry, entry-at, book-bytes, size, closes, holds, next, _giving_, scan, rising, book}
 use Rattle.book.specs.Lookup.{in-use, held, look-up, part, before, rooms, spot-at, spot}
 use Rattle.book.specs.declared.Spot.{Spot}
 use Rattle.book.specs.declared.Used.{Used}

@@ -1,6 +1,4 @@
 -- `book::closes` meets its contract, by what the cursor finds. Assumes nothing.
-use mathlib.Core.Path.{sym, _∙_}
-use denote.Ref.{now}
 use borrow.Author.Needs.{needs}
 use Rattle.record.proofs.Records.{missing, present}
 use Rattle.book.proofs.Standing.{closes-within, none-closes}

@@ -1,6 +1,6 @@
 -- `book::walk` meets its contract. Assumes nothing.
 use Prim.Native.Nat.{_-_}
-use mathlib.Core.Path.{_≡_, sym, ap, _∙_}
+use mathlib.Core.Path.{_≡_, ap, _∙_}
 use native.Mathlib.Omega.{arith}
 use denote.Ref.{now}
 use lib.ListN.{length}
@@ -8,7 +8,7 @@ use borrow.Author.Needs.{needs}
 use Rattle.answer.specs.Answer.{_then_}
 use Rattle.answer.specs.Judge.{verdict-of}
 use Rattle.book.specs.Steps.{past}
-use Rattle.book.proofs.Standing.{closing, holding, Told, told-close, told-wrong, told-room}
+use Rattle.book.proofs.Standing.{holding, Told, told-close, told-wrong, told-room}
 use Rattle.book.proofs.Walks.{Going, going-starts, going-wrong, going-closed, going-on}
 use Rattle.book.proofs.walk.Statement.{statement}
 use Rattle.book.proofs.walk.Tie as tie

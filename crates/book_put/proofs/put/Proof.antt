@@ -1,12 +1,10 @@
 -- `book_put::put` meets its contract: the book's refusal, the card's own, 21. Assumes nothing.
-use mathlib.Core.Path.{_≡_, refl, sym, ap, _∙_}
+use mathlib.Core.Path.{refl, sym, ap, _∙_}
 use denote.Ref.{now}
 use borrow.Author.Needs.{needs}
-use Rattle.answer.specs.Judge.{verdict-of}
 use Rattle.answer.proofs.Chain.{step-refuses, step-passes}
-use Rattle.book.specs.Steps.{walked, walked-of}
+use Rattle.book.specs.Steps.{walked-of}
 use Rattle.book.proofs.Answers.{walk-refused, Walks, walk-sound}
-use Rattle.book_put.specs.Put.{Puts}
 use Rattle.book_put.proofs.Answers.{puts-refused, put-refused, put-of, made-of}
 use Rattle.book_put.proofs.put.Statement.{statement}
 use Rattle.book_put.proofs.put.Tie as tie

@@ -1,5 +1,5 @@
 -- `book_put::put_at` meets its contract: 21 by the size of the new book, else the new book is written. Assumes nothing.
-use mathlib.Core.Path.{_∙_, sym, refl}
+use mathlib.Core.Path.{_∙_}
 use native.Mathlib.Omega.{arith}
 use denote.Ref.{now}
 use borrow.Author.Needs.{needs}
