@@ -9,6 +9,7 @@
 
 /* Each list stands between so many bytes of a pattern. */
 enum { GUARD = 64, PAINT = 0xa5 };
+static uint8_t paint[GUARD];
 
 struct list {
     void *first;
@@ -45,8 +46,8 @@ static struct list list(size_t width) {
     uint8_t *guarded = malloc(l.bytes + 2 * GUARD);
     if (guarded == NULL)
         exit(1);
-    memset(guarded, PAINT, GUARD);
-    memset(guarded + GUARD + l.bytes, PAINT, GUARD);
+    memcpy(guarded, paint, GUARD);
+    memcpy(guarded + GUARD + l.bytes, paint, GUARD);
     l.first = guarded + GUARD;
     take(l.first, l.bytes);
     return l;
@@ -54,9 +55,8 @@ static struct list list(size_t width) {
 
 static void drop(struct list l) {
     uint8_t *guarded = (uint8_t *)l.first - GUARD;
-    for (size_t i = 0; i < GUARD; i++)
-        if (guarded[i] != PAINT || guarded[GUARD + l.bytes + i] != PAINT)
-            _Exit(1);
+    if (memcmp(guarded, paint, GUARD) != 0 || memcmp(guarded + GUARD + l.bytes, paint, GUARD) != 0)
+        _Exit(1);
     free(guarded);
 }
 
@@ -65,6 +65,7 @@ static void give_back(struct list l) {
 }
 
 int main(void) {
+    memset(paint, PAINT, GUARD);
     int letter;
     while ((letter = getchar()) != EOF) {
         struct list a, b, c, d, e;
