@@ -1,13 +1,13 @@
--- Document 01, "Cases at the edges": P1 to P12, with the minutes of document 02, order 2, a single table under one claim, of the definitions: by computation.
+-- Document 01, "Cases at the edges": P1 to P12, with the minutes and faults of document 02, orders 2 and 4, a single table under one claim, of the definitions: by computation.
 -- Assumes nothing.
 use mathlib.Core.Path.{_≡_, refl}
-use mathlib.Core.List.{List, [], _∷_, map}
+use mathlib.Core.List.{List, [], _∷_, _++_, map}
 use Prim.Native.Nat.{ℕ}
 use lib.IntN.{ℤ, pos}
 use lib.ListN.{replicate}
 use Rattle.whole.specs.Whole.{minus, beyond, nearest}
 use Rattle.answer.specs.Answer.{Answer, refused, given, _then_, refuse, each}
-use Rattle.curve.specs.Log.{count, sum, mean-of, long, readable, some-good, reachable, mean}
+use Rattle.curve.specs.Log.{count, sum, faults, mean-of, long, readable, some-good, half-good, reachable, mean}
 use Rattle.curve.specs.Formula.{power, worth, ∂, ∂^, amount}
 use Rattle.curve.specs.Curve.{degree, N, rightward, leftward, allowance}
 use Rattle.curve.specs.Kind.{quintic-asks, quintic}
@@ -58,9 +58,9 @@ value-slope c minute = shown (λ r. r .value ∷ r .slope ∷ []) (reading quint
 unfoldable pub judged : Card → Answer (List ℤ)
 judged c = shown (λ u. []) (verdict quintic c)
 
--- of a log from a first minute on: the minute for which it stands, its ordinate and its count of good bytes
+-- of a log from a first minute on: the minute for which it stands, its ordinate and its counts of good bytes and of faults
 unfoldable pub mean-from : ℕ → List ℕ → Answer (List ℤ)
-mean-from first log = shown (λ r. pos (r .minute) ∷ r .ordinate ∷ pos (r .good-bytes) ∷ []) (mean first log)
+mean-from first log = shown (λ r. pos (r .minute) ∷ r .ordinate ∷ pos (r .good-bytes) ∷ pos (r .fault-bytes) ∷ []) (mean first log)
 
 infix 4 _is_
 pub record Case : Type 0 where
@@ -81,30 +81,38 @@ cases =
     ∷ (judged (table-3 (minus 108_803)) is refused 10 2)
     ∷ (value line 1 is given (pos 0 ∷ []))
     ∷ (value line 3 is given (pos 2 ∷ []))
-    ∷ (mean-from 60 (100 ∷ 255 ∷ 102 ∷ []) is given (pos 61 ∷ pos 5050 ∷ pos 2 ∷ []))
-    ∷ (mean-from 60 (0 ∷ 0 ∷ 0 ∷ 1 ∷ []) is given (pos 62 ∷ pos 12 ∷ pos 4 ∷ []))
-    ∷ (mean-from 60 (0 ∷ 1 ∷ 1 ∷ 1 ∷ []) is given (pos 62 ∷ pos 38 ∷ pos 4 ∷ []))
+    ∷ (mean-from 60 (100 ∷ 255 ∷ 102 ∷ []) is given (pos 61 ∷ pos 5050 ∷ pos 2 ∷ pos 1 ∷ []))
+    ∷ (mean-from 60 (0 ∷ 0 ∷ 0 ∷ 1 ∷ []) is given (pos 62 ∷ pos 12 ∷ pos 4 ∷ pos 0 ∷ []))
+    ∷ (mean-from 60 (0 ∷ 1 ∷ 1 ∷ 1 ∷ []) is given (pos 62 ∷ pos 38 ∷ pos 4 ∷ pos 0 ∷ []))
     ∷ (mean-from 60 (255 ∷ []) is refused 13 0)
     ∷ (mean-from 60 (201 ∷ []) is refused 12 0)
     -- faults count in the length
-    ∷ (mean-from 60 (100 ∷ 255 ∷ 255 ∷ 102 ∷ []) is given (pos 62 ∷ pos 5050 ∷ pos 2 ∷ []))
+    ∷ (mean-from 60 (100 ∷ 255 ∷ 255 ∷ 102 ∷ []) is given (pos 62 ∷ pos 5050 ∷ pos 2 ∷ pos 2 ∷ []))
     ∷ (mean-from 65_534 (100 ∷ 255 ∷ 255 ∷ 102 ∷ []) is refused 19 0)
     -- the last minute, and the one behind it: 12 and 13 go before 19
-    ∷ (mean-from 65_534 (100 ∷ 102 ∷ []) is given (pos 65_535 ∷ pos 5050 ∷ pos 2 ∷ []))
+    ∷ (mean-from 65_534 (100 ∷ 102 ∷ []) is given (pos 65_535 ∷ pos 5050 ∷ pos 2 ∷ pos 0 ∷ []))
     ∷ (mean-from 65_535 (100 ∷ 102 ∷ []) is refused 19 0)
     ∷ (mean-from 65_535 (255 ∷ 255 ∷ []) is refused 13 0)
     ∷ (mean-from 65_535 (100 ∷ 201 ∷ []) is refused 12 1)
+    -- half of an even length and one less, half of an odd one and one less; 12 and 13 go before 23, and 23 before 19
+    ∷ (mean-from 60 (100 ∷ 255 ∷ 255 ∷ 255 ∷ []) is refused 23 0)
+    ∷ (mean-from 60 (100 ∷ 255 ∷ 102 ∷ 255 ∷ 255 ∷ []) is refused 23 0)
+    ∷ (mean-from 60 (100 ∷ 255 ∷ 102 ∷ 255 ∷ 104 ∷ []) is given (pos 62 ∷ pos 5100 ∷ pos 3 ∷ pos 2 ∷ []))
+    ∷ (mean-from 60 (100 ∷ replicate 59 255) is refused 23 0)
+    ∷ (mean-from 60 (replicate 30 255 ++ replicate 30 100) is given (pos 90 ∷ pos 5000 ∷ pos 30 ∷ pos 30 ∷ []))
+    ∷ (mean-from 60 (100 ∷ 255 ∷ 255 ∷ 201 ∷ []) is refused 12 3)
+    ∷ (mean-from 65_535 (100 ∷ 255 ∷ 255 ∷ []) is refused 23 0)
     -- the limits of a byte and of the length
-    ∷ (mean-from 60 (200 ∷ 255 ∷ []) is given (pos 61 ∷ pos 10_000 ∷ pos 1 ∷ []))
+    ∷ (mean-from 60 (200 ∷ 255 ∷ []) is given (pos 61 ∷ pos 10_000 ∷ pos 1 ∷ pos 1 ∷ []))
     ∷ (mean-from 60 (200 ∷ 254 ∷ []) is refused 12 1)
     ∷ (mean-from 60 [] is refused 16 0)
-    ∷ (mean-from 60 (replicate 60 100) is given (pos 90 ∷ pos 5000 ∷ pos 60 ∷ []))
+    ∷ (mean-from 60 (replicate 60 100) is given (pos 90 ∷ pos 5000 ∷ pos 60 ∷ pos 0 ∷ []))
     ∷ (mean-from 60 (replicate 61 100) is refused 16 0)
     ∷ []
 
 pub hold : map (λ c. c .found) cases ≡ map (λ c. c .wanted) cases
 unfolding cases shown table-3 p1 line value value-slope judged mean-from
-    beyond nearest _then_ refuse each readable count sum mean-of long some-good reachable mean
+    beyond nearest _then_ refuse each readable count sum faults mean-of long some-good half-good reachable mean
     power worth ∂ ∂^ amount degree N rightward leftward allowance quintic-asks quintic
     knots knot back on gap spot inverse clear over rise jump allowed joint jumps slope-beyond curvature-beyond
     lengths counted codes stands in-range smooth outside numbers-sound sound verdict last-at gap-of spell denominator between reads reads-at reading-order reading

@@ -9,5 +9,6 @@ pub mod Demand3
 pub mod NearExact
 pub mod NeverTen
 pub mod Middle
+pub mod Faults
 pub mod Cases
 pub mod Witness
