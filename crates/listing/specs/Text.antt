@@ -1,4 +1,4 @@
--- What both programs print, as bytes: document 01, "Two programs". "Both print a line per knot, then `ok n`; or one line `refused NUMBER at PLACE`."
+-- What both programs print, as bytes: document 01, "Two programs", and document 02, order 4. "Both print a line per knot, then `ok n`; or one line `refused NUMBER at PLACE`."
 -- Assumes nothing.
 use Prim.Native.Nat.{ℕ, zero, suc, _*_, _≤_}
 use mathlib.Core.Bool.{cond}
@@ -16,9 +16,20 @@ space = 32
 abbrev pub line-feed : ℕ
 line-feed = 10
 
--- "x y m M"
+-- "x y m M", and the byte behind them
+unfoldable pub four-fields : ℕ → ℤ → ℤ → ℤ → ℕ → List ℕ
+four-fields x y m M last = field (pos x) space ++ field y space ++ field m space ++ field M last
+
 unfoldable pub knot-line : ℕ → ℤ → ℤ → ℤ → List ℕ
-knot-line x y m M = field (pos x) space ++ field y space ++ field m space ++ field M line-feed
+knot-line x y m M = four-fields x y m M line-feed
+
+-- in the place of a knot's faults, where it is no log's; a log has at most 60
+abbrev pub no-log : ℕ
+no-log = 255
+
+-- of a log "its line has the faults printed behind the curvature", and no other knot's
+unfoldable pub listed-line : ℕ → ℤ → ℤ → ℤ → ℕ → List ℕ
+listed-line x y m M faults = cond (eqb faults no-log) (knot-line x y m M) (four-fields x y m M space ++ field (pos faults) line-feed)
 
 unfoldable pub ok-line : ℕ → List ℕ
 ok-line n = worded "ok " n ++ (line-feed ∷ [])
@@ -31,17 +42,22 @@ unfoldable pub lines : (ℕ → List ℕ) → ℕ → List ℕ
 lines line zero = []
 lines line (suc n) = lines line n ++ line n
 
-unfoldable pub line-of : List ℕ → List ℤ → List ℤ → List ℤ → ℕ → List ℕ
-line-of xs ys ms Ms i = knot-line (getD xs i 0) (getD ys i (pos 0)) (getD ms i (pos 0)) (getD Ms i (pos 0))
+-- a knot behind the end of the list of faults is no log's
+unfoldable pub line-of : List ℕ → List ℤ → List ℤ → List ℤ → List ℕ → ℕ → List ℕ
+line-of xs ys ms Ms fs i = listed-line (getD xs i 0) (getD ys i (pos 0)) (getD ms i (pos 0)) (getD Ms i (pos 0)) (getD fs i no-log)
 
--- number and place of a refusal, 0 and 0 where there is none; then the lists of minutes, ordinates, slopes and curvatures
-unfoldable pub listing : ℕ → ℕ → List ℕ → List ℤ → List ℤ → List ℤ → List ℕ
-listing number place xs ys ms Ms =
-    cond (eqb number 0) (lines (line-of xs ys ms Ms) (length xs) ++ ok-line (length xs)) (refused-line number place)
+-- number and place of a refusal, 0 and 0 where there is none; then the lists of minutes, ordinates, slopes, curvatures and faults
+unfoldable pub listing : ℕ → ℕ → List ℕ → List ℤ → List ℤ → List ℤ → List ℕ → List ℕ
+listing number place xs ys ms Ms fs =
+    cond (eqb number 0) (lines (line-of xs ys ms Ms fs) (length xs) ++ ok-line (length xs)) (refused-line number place)
 
 -- ---- inside
 
--- n lines at the front of a buffer, each of at most 48 bytes
+-- the most bytes that a line has
+abbrev pub longest-line : ℕ
+longest-line = 60
+
+-- n lines at the front of a buffer
 pub record Lines (line : ℕ → List ℕ) (n : ℕ) (entry exit : List ℕ) (next : ℕ) : Type 0 where
   pub put : Put (lines line n) entry exit 0 next
-  pub short : next ≤ 48 * n
+  pub short : next ≤ longest-line * n

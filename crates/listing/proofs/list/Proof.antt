@@ -11,7 +11,7 @@ use Rattle.listing.proofs.list.Tie as tie
 
 refused-line-requires : tie.Need-refused-line-requires
 refused-line-requires c κs =
-    let a = c .before .before .before .before in
+    let a = c .before .before .before .before .before in
     let p = a .pre .1 in
     omega (arith, length-refused-line (a .args .number) (a .args .place) (omega arith) (omega arith))
 
@@ -21,18 +21,18 @@ same-length c = same-room (c .before .before .refused-line .ensures)
 returns : tie.Need-returns
 returns c =
     let q = c .before .before in
-    let a = q .before .before .before .before .before .args in
-    rw (refused-listing (a .number) (a .place) (now (a .minutes)) (now (a .ordinates)) (now (a .slopes)) (now (a .curvatures)) (q .before .before .if1 .taken))
+    let a = q .before .before .before .before .before .before .args in
+    rw (refused-listing (a .number) (a .place) (now (a .minutes)) (now (a .ordinates)) (now (a .slopes)) (now (a .curvatures)) (now (a .faults)) (q .before .before .if1 .taken))
     (q .refused-line .ensures)
 
 knot-lines-requires : tie.Need-knot-lines-requires
 knot-lines-requires c κs =
-    let a = c .before .before .before .before in
+    let a = c .before .before .before .before .before in
     (a .pre .0, omega (arith, a .pre .1))
 
 accepted-line-requires : tie.Need-accepted-line-requires
 accepted-line-requires c κs =
-    let a = c .before .before .before .before .before .before .before .before in
+    let a = c .before .before .before .before .before .before .before .before .before in
     let l = c .before .before .before .knot-lines .ensures in
     omega (arith, a .pre .1, l .short, same-room (l .put), length-ok-line (length (now (a .args .minutes))) (a .pre .1 .0))
 
@@ -42,9 +42,9 @@ same-length-2 c = same-room (c .before .before .accepted-line .ensures) ∙ same
 returns-2 : tie.Need-returns-2
 returns-2 c =
     let q = c .before .before .before .before .before .before in
-    let a = q .before .before .before .before .before .args in
+    let a = q .before .before .before .before .before .before .args in
     let n : a .number ≡ 0 = omega (arith, q .before .before .if1 .left) in
-    rw (accepted-listing (a .number) (a .place) (now (a .minutes)) (now (a .ordinates)) (now (a .slopes)) (now (a .curvatures)) n)
+    rw (accepted-listing (a .number) (a .place) (now (a .minutes)) (now (a .ordinates)) (now (a .slopes)) (now (a .curvatures)) (now (a .faults)) n)
     (put-then (q .knot-lines .ensures .put) (c .before .before .accepted-line .ensures))
 
 pub list-spec : {M : Type 1} → statement M
