@@ -28,15 +28,7 @@ pub fn knot_line(text: &mut [u8], at: usize, x: u16, y: i32, m: i32, c: i32) -> 
 pub const NO_LOG: u8 = 255;
 
 // A log's line has its faults behind the curvature.
-fn listed_line(
-    text: &mut [u8],
-    at: usize,
-    x: u16,
-    y: i32,
-    m: i32,
-    c: i32,
-    faults: u8,
-) -> usize
+fn listed_line(text: &mut [u8], at: usize, x: u16, y: i32, m: i32, c: i32, faults: u8) -> usize
     requires { ⌜ at + length (listed-line x y m c faults) ≤ length (now text) ⌝ }
     ensures { λ r. ⌜ Put (listed-line x y m c faults) (now (text .entry)) (now (text .exit)) at r ⌝ }
 {
