@@ -2,7 +2,7 @@
 -- Assumes nothing.
 use Prim.Native.Nat.{ℕ, _≤_}
 use mathlib.Core.Path.{_≡_, refl, ap, _∙_}
-use mathlib.Core.List.{List}
+use mathlib.Core.List.{List, []}
 use lib.ListN.{length, take}
 use lib.Seq.{take-at}
 use native.Mathlib.Omega.{arith}
@@ -66,7 +66,7 @@ module _ (s : List ℕ) {l : Lists} (roomy : Roomy l) where
         go (refused number place) e = omega arith
         go (given u) e = held s e .many
 
-    pub printed-read : (let n = r .knots in listing (r .number) (r .place) (take n (exit .minutes)) (take n (exit .ordinates)) (take n (exit .slopes)) (take n (exit .curvatures)) ≡ printed s)
+    pub printed-read : (let n = r .knots in listing (r .number) (r .place) (take n (exit .minutes)) (take n (exit .ordinates)) (take n (exit .slopes)) (take n (exit .curvatures)) [] ≡ printed s)
     unfolding printed card-listing checked lent-after knots
     printed-read = rw (reads .minutes, reads .ordinates, reads .slopes, reads .curvatures, is-own, into-own) (go (own s) refl)
       where
@@ -74,7 +74,7 @@ module _ (s : List ℕ) {l : Lists} (roomy : Roomy l) where
             → (let c = card-of s in
             let r = checked v c in
             listing (r .number) (r .place) (take (r .knots) (lent-after v (c .minutes) (l .minutes))) (take (r .knots) (lent-after v (c .ordinates) (l .ordinates)))
-            (take (r .knots) (lent-after v (c .slopes) (l .slopes))) (take (r .knots) (lent-after v (c .curvatures) (l .curvatures)))
+            (take (r .knots) (lent-after v (c .slopes) (l .slopes))) (take (r .knots) (lent-after v (c .curvatures) (l .curvatures))) []
             ≡ card-listing v c)
         go (refused number place) e = refl
         go (given u) e =

@@ -8,9 +8,10 @@ use Rattle.card_bytes.specs.Held.{card-of}
 use Rattle.card.specs.Answers.{own}
 use Rattle.listing.specs.Text.{listing}
 
+-- a card holds no faults: no line of it has any
 unfoldable pub card-listing : Verdict → Card → List ℕ
-card-listing (refused number place) c = listing number place [] [] [] []
-card-listing (given u) c = listing 0 0 (c .minutes) (c .ordinates) (c .slopes) (c .curvatures)
+card-listing (refused number place) c = listing number place [] [] [] [] []
+card-listing (given u) c = listing 0 0 (c .minutes) (c .ordinates) (c .slopes) (c .curvatures) []
 
 -- the card's own verdict, and the card that the bytes hold
 unfoldable pub printed : List ℕ → List ℕ

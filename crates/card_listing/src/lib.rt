@@ -1,4 +1,4 @@
-// What the lister prints of a card's bytes: a line for each knot, or the refusal. Document 01, "Two programs".
+// What the lister prints of a card's bytes: a line for each knot, or the refusal. Document 01, "Two programs". A card has no faults.
 use knots::Kind;
 ghost use mathlib.Core.Path.{_≡_};
 ghost use Prim.Native.Nat.{_≤_};
@@ -40,6 +40,7 @@ pub fn list_card(card: &[u8], text: &mut [u8]) -> Listed
         &ordinates[..n],
         &slopes[..n],
         &curvatures[..n],
+        b"",
         text,
     );
     Listed {

@@ -56,7 +56,7 @@ slice-aggregate-list-4 c = sym (length-take-le _ _ (curvatures-hold (c .before .
 
 list-requires : tie.Need-list-requires
 list-requires c κs =
-    let q = c .before .before .before .before .before .before .before .before .before .before in
+    let q = c .before .before .before .before .before .before .before .before .before .before .before in
     let f = fits q in
     let n = q .read .result .knots in
     let x = length-take-le n (q .read .last .1 .0) (minutes-hold q) in
@@ -68,7 +68,7 @@ list-requires c κs =
 
 returns : tie.Need-returns
 returns c =
-    let q = c .before .before .before .before .before .before .before .before .before .before .before .before .before in
+    let q = c .before .before .before .before .before .before .before .before .before .before .before .before .before .before in
     let s = now (q .before .before .before .before .before .before .before .args .card) in
     (rw (sym (printed-read s zeros (q .read .ensures))) (c .before .before .list .ensures), own-number s zeros (q .read .ensures))
 
@@ -90,6 +90,7 @@ list-card-spec =
     slice-aggregate-list-3
     array-share-prefix-curvatures
     slice-aggregate-list-4
+    (λ c. search needs)
     list-requires
     (λ c. search needs)
     returns)
