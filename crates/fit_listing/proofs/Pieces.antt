@@ -3,7 +3,7 @@ use mathlib.Core.Path.{_≡_, ap}
 use mathlib.Core.List.{List}
 use Prim.Native.Nat.{ℕ}
 use Rattle.sheet.specs.Pieces.{pieces}
-use Rattle.sheet.specs.Sheet.{most}
+use Rattle.gather.specs.Gathered.{most}
 use Rattle.sheet.specs.Step.{no-records, steps, closed}
 use Rattle.sheet.proofs.Folding.{steps-read-all}
 use Rattle.fit_listing.specs.Printed.{listed, printed}

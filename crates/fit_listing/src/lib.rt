@@ -1,10 +1,11 @@
-// What the fitter prints of a sheet: the listing of its fit with free ends. Document 01, "Two programs".
-use sheet::Sheet;
+// What the fitter prints of a sheet: the listing of its fit with free ends. Document 01, "Two programs", and document 02, order 4.
+use gather::Gathered;
 ghost use mathlib.Core.Path.{_≡_};
 ghost use Prim.Native.Nat.{_+_, _*_, _^_, _≤_, _<_};
 ghost use lib.ListN.{length};
 ghost use Rattle.decimal.specs.Put.{Put};
-ghost use Rattle.sheet.specs.Sheet.{most};
+ghost use Rattle.listing.specs.Text.{longest-line};
+ghost use Rattle.gather.specs.Gathered.{most};
 ghost use Rattle.fit_listing.specs.Printed.{fit-listing, listed};
 
 fn list_fit(
@@ -12,11 +13,12 @@ fn list_fit(
     ordinates: &[i16],
     slopes: &mut [i32],
     curvatures: &mut [i32],
+    faults: &[u8],
     text: &mut [u8],
 ) -> usize
     requires { ⌜ (length (now ordinates) ≡ length (now minutes)) × (length (now slopes) ≡ length (now minutes)) × (length (now curvatures) ≡ length (now minutes)) ⌝ }
-    requires { ⌜ (length (now minutes) < 2 ^ 32) × (48 * length (now minutes) + 33 ≤ length (now text)) ⌝ }
-    ensures { λ r. ⌜ Put (fit-listing (now (minutes .entry)) (now (ordinates .entry)) (now (slopes .entry)) (now (curvatures .entry))) (now (text .entry)) (now (text .exit)) 0 r ⌝ }
+    requires { ⌜ (length (now minutes) < 2 ^ 32) × (longest-line * length (now minutes) + 33 ≤ length (now text)) ⌝ }
+    ensures { λ r. ⌜ Put (fit-listing (now (minutes .entry)) (now (ordinates .entry)) (now (slopes .entry)) (now (curvatures .entry)) (now (faults .entry))) (now (text .entry)) (now (text .exit)) 0 r ⌝ }
 {
     let fitted = fit::fit(minutes, ordinates, slopes, curvatures);
     listing::list(
@@ -26,12 +28,13 @@ fn list_fit(
         ordinates,
         slopes,
         curvatures,
+        faults,
         text,
     )
 }
 
 // The listing of a sheet at the front of a buffer, and its length.
-pub fn list_sheet(sheet: Sheet, text: &mut [u8]) -> usize
+pub fn list_sheet(sheet: Gathered, text: &mut [u8]) -> usize
     requires { ⌜ (sheet .knots ≤ most) × (4096 ≤ length (now text)) ⌝ }
     ensures { λ r. ⌜ Put (listed sheet) (now (text .entry)) (now (text .exit)) 0 r ⌝ }
 {
@@ -41,13 +44,15 @@ pub fn list_sheet(sheet: Sheet, text: &mut [u8]) -> usize
     let n = sheet.knots;
     let minutes = sheet.minutes;
     let ordinates = sheet.ordinates;
-    let mut slopes = [0i32; Sheet::MOST];
-    let mut curvatures = [0i32; Sheet::MOST];
+    let faults = sheet.faults;
+    let mut slopes = [0i32; Gathered::MOST];
+    let mut curvatures = [0i32; Gathered::MOST];
     list_fit(
         &minutes[..n],
         &ordinates[..n],
         &mut slopes[..n],
         &mut curvatures[..n],
+        &faults[..n],
         text,
     )
 }
