@@ -1,6 +1,6 @@
-// The fitter: knots as records on standard input, the listing of their fit on standard output. Document 01, "Two programs".
+// The fitter: knots and logs as records on standard input, the listing of their fit on standard output. Document 01, "Two programs", and document 02, order 4.
+use gather::Gathered;
 use sheet::Intake;
-use sheet::Sheet;
 ghost use Prim.Native.Nat.{_≤_};
 ghost use lib.ListN.{length};
 ghost use Rattle.sheet.specs.Sheet.{Of-an-input};
@@ -13,7 +13,7 @@ struct Turn {
     intake: Intake,
 }
 
-// One turn of the loop of `Sheet::read`, with what standard input gives for its pieces. No contract can say what that is.
+// One turn of the loop of `sheet::read`, with what standard input gives for its pieces. No contract can say what that is.
 fn take_record(intake: Intake, space: &mut [u8]) -> Turn
     requires { ⌜ Near intake × (65535 ≤ length (now space)) ⌝ }
     ensures { λ r. ⌜ Turned intake r ⌝ }
@@ -37,12 +37,12 @@ fn take_record(intake: Intake, space: &mut [u8]) -> Turn
 }
 
 // At most 65 records, each with at most 65,535 bytes behind its head: one buffer holds one of them.
-fn read_input() -> Sheet
+fn read_input() -> Gathered
     ensures { λ r. ⌜ Of-an-input r ⌝ }
 {
     let mut space = io::large_buffer();
     let mut intake = Intake::new();
-    let mut left: usize = Sheet::MOST;
+    let mut left: usize = Gathered::MOST;
     while 0 < left {
         let turn = take_record(intake, &mut space);
         let next = turn.intake;

@@ -3,12 +3,14 @@ use mathlib.Core.Path.{sym}
 use native.Mathlib.Omega.{arith}
 use lib.Seq.{length-take-le}
 use Rattle.decimal.proofs.Puts.{same-room}
+use Rattle.curve.specs.Kind.{quintic}
 use Rattle.sheet.proofs.Folding.{few-in-a-sheet}
 use borrow.Author.Needs.{needs}
 use Rattle.fitter.proofs.main.Statement.{statement}
 use Rattle.fitter.proofs.main.Tie as tie
 
 list-sheet-requires : tie.Need-list-sheet-requires
+unfolding quintic
 list-sheet-requires c κs = let i = c .before .read-input .ensures in (rw (i .is) (omega (arith, few-in-a-sheet (i .input))), omega (arith, c .before .before .buffer .ensures))
 
 array-share-prefix-text : tie.Need-array-share-prefix-text
