@@ -23,10 +23,11 @@ ghost use Rattle.book.specs.Lookup.{spot};
 ghost use Rattle.book_put.specs.Put.{put, Puts};
 ghost use Rattle.kaihveto.specs.Types.{Minutes, Room};
 
-// The mean of a log from its first minute on, and the minute for which it stands: 16, 12, 13, 19.
+// The mean of a log from its first minute on, the minute for which it stands, and how many of its bytes are good and how many are faults: 16, 12, 13, 23, 19.
 #[no_mangle]
 pub extern "C" fn kaihveto_mean(first: u16, log: &[u8]) -> log::Mean
     ensures { λ r. ⌜ r ≡ answered (mean first (now (log .entry))) ⌝ }
+    ensures typed { λ r. ⌜ Bytes (now (log .entry)) ⌝ }
 {
     log::mean_of(first, log)
 }
