@@ -81,11 +81,11 @@ spares {v = v} {k = k} vs entry {exit} s e room =
 
 -- zeros beside a refusal
 abbrev pub No-mean : Mean → Type 0
-No-mean r = r .number ≢ 0 → (r .minute ≡ 0) × (r .ordinate ≡ pos 0) × (r .good ≡ 0)
+No-mean r = r .number ≢ 0 → (r .minute ≡ 0) × (r .ordinate ≡ pos 0) × (r .good ≡ 0) × (r .faults ≡ 0)
 
 mean-fields : (v : Answer Log.Mean) → (let r = Log-answers.answered v in (r .number ≡ number v) × (r .place ≡ place v) × No-mean r)
 unfolding Log-answers.answered number place
-mean-fields (refused n p) = (refl, refl, λ h. (refl, refl, refl))
+mean-fields (refused n p) = (refl, refl, λ h. (refl, refl, refl, refl))
 mean-fields (given m) = (refl, refl, λ h. absurd (h refl))
 
 pub mean-answers : (first : ℕ) (log : List ℕ) {r : Mean} → r ≡ Log-answers.answered (Log.mean first log) → Says (Log.mean first log) (r .number) (r .place) × No-mean r

@@ -38,8 +38,8 @@ fits-between c = fit-says (between-ends c) (codes-numbered quintic _ _) (c .prom
 one : Demand-1
 one =
     record {
-      mean = λ c. mean-answers (first-minute c) (log c) (c .promised) .0;
-      mean-zeros = λ c. mean-answers (first-minute c) (log c) (c .promised) .1;
+      mean = λ c. mean-answers (first-minute c) (log c) (c .promised .0) .0;
+      mean-zeros = λ c. mean-answers (first-minute c) (log c) (c .promised .0) .1;
       fit = fits;
       fit-between = fits-between;
       fit-spares = λ c. fit-spares (without-ends c) given-never (c .promised);
@@ -102,7 +102,7 @@ two =
       fit = λ c zero. eliminates (without-ends c) (c .promised) (fits c .accepts zero);
       fit-between = λ c zero. eliminates (between-ends c) (c .promised) (fits-between c .accepts zero);
       mend = mend-eliminates;
-      mean = λ c zero. mean-given (first-minute c) (log c) (c .promised) (mean-answers (first-minute c) (log c) (c .promised) .0 .accepts zero);
+      mean = λ c zero. mean-given (first-minute c) (log c) (c .promised .0) (c .promised .1) (mean-answers (first-minute c) (log c) (c .promised .0) .0 .accepts zero);
       written-is-checked = λ w c zero same.
           accepts-its-card (checked-bytes c) (written-held (w .promised .0) (w .promised .1) zero same) (c .promised .0) (written-accepted (w .promised .0) (w .promised .1) zero same);
       written-is-read = λ w r zero same room.

@@ -1,6 +1,6 @@
 -- Demand 2 of a fit and of a mean: what they give where they accept.
 -- Assumes nothing.
-use Prim.Native.Nat.{ℕ, _*_, _≤_}
+use Prim.Native.Nat.{ℕ, _+_, _*_, _≤_}
 use mathlib.Core.Path.{_≡_, ap, _∙_}
 use mathlib.Core.List.{List}
 use native.Mathlib.Omega.{arith}
@@ -8,9 +8,11 @@ use lib.IntN.{pos}
 use lib.ListN.{length}
 use Rattle.whole.specs.Whole.{nearest}
 use Rattle.answer.specs.Answer.{given}
+use Rattle.bytes.specs.Numbers.{Bytes}
 use Rattle.curve.specs.Card.{latest}
-use Rattle.curve.specs.Log.{count, sum, middle, mean-of, mean}
+use Rattle.curve.specs.Log.{count, sum, faults, middle, mean-of, mean}
 use Rattle.curve.proofs.Middle.{stated}
+use Rattle.curve.proofs.Faults.{accepted-together, half-is-good}
 use Rattle.log.specs.declared.Mean.{Mean as Answered}
 use Rattle.log.specs.Answers.{answered}
 use Rattle.fit.specs.Fit.{card-of}
@@ -29,12 +31,16 @@ eliminates f fits g =
       curvatures = fits .curvatures ∙ ap (λ v. curvatures-after v (f .curvatures)) (g .is) ∙ ap (λ c. c .curvatures) is;
     }
 
--- an accepted mean is the stated one
-pub mean-given : (first : ℕ) (log : List ℕ) {r : Answered} → r ≡ answered (mean first log) → Is-given (mean first log)
+-- an accepted mean is the stated one, and every byte of the log is counted once
+pub mean-given : (first : ℕ) (log : List ℕ) {r : Answered} → r ≡ answered (mean first log) → Bytes log → Is-given (mean first log)
     → (r .minute ≡ middle first (length log)) × (r .minute ≤ latest) × (r .ordinate ≡ nearest (pos (50 * sum log)) (count log)) × (r .good ≡ count log)
-unfolding mean-of answered
-mean-given first log e g =
+    × (r .faults ≡ faults log) × (r .good + r .faults ≡ length log) × (length log ≤ 2 * r .good)
+unfolding mean-of answered Bytes
+mean-given first log e bytes g =
     let m = stated first log (g .is) in
     let is = e ∙ ap answered (g .is ∙ ap given (m .is)) in
     let at = ap (λ r. r .minute) is in
-    (at, omega (arith, at, m .in-time), ap (λ r. r .ordinate) is, ap (λ r. r .good) is)
+    let good = ap (λ r. r .good) is in
+    let fault = ap (λ r. r .faults) is in
+    let all = accepted-together first log (g .is) (λ i. omega (arith, bytes i)) in
+    (at, omega (arith, at, m .in-time), ap (λ r. r .ordinate) is, good, fault, omega (arith, good, fault, all), omega (arith, good, half-is-good first log (g .is)))

@@ -9,7 +9,7 @@ use Rattle.answer.specs.Answer.{Answer, refused, given, Verdict, accepted, numb
 use Rattle.answer.proofs.Never.{Never, given-never, never-then, never-each, numbered-refuse}
 use Rattle.curve.specs.Kind.{Kind, quintic}
 use Rattle.curve.specs.Card.{Card, knots}
-use Rattle.curve.specs.Log.{long, readable, some-good, reachable, mean}
+use Rattle.curve.specs.Log.{long, readable, some-good, half-good, reachable, mean}
 use Rattle.curve.specs.Steps.{outside, room}
 use Rattle.curve.specs.Orders.{sound, verdict, card-order, lists-order, write-order, reading-order}
 use Rattle.fit.proofs.Numbered.{lengths-numbered, counted-numbered, codes-numbered, stands-numbered, numbers-numbered}
@@ -36,11 +36,11 @@ room-numbered needed lent = numbered-refuse 26 0 _ (lit< tt)
 -- ---- orders
 
 pub mean-numbered : (first : ℕ) (log : List ℕ) → Never 0 (mean first log)
-unfolding mean long readable some-good reachable
+unfolding mean long readable some-good half-good reachable
 mean-numbered first log =
     never-then (numbered-refuse 16 0 _ (lit< tt))
     (never-then (never-each 0 _ 0 (length log) (λ i l. numbered-refuse 12 i _ (lit< tt)))
-    (never-then (numbered-refuse 13 0 _ (lit< tt)) (never-then (numbered-refuse 19 0 _ (lit< tt)) given-never)))
+    (never-then (numbered-refuse 13 0 _ (lit< tt)) (never-then (numbered-refuse 23 0 _ (lit< tt)) (never-then (numbered-refuse 19 0 _ (lit< tt)) given-never))))
 
 pub write-numbered : (c : Card) (lent : ℕ) → Never 0 (write-order quintic c lent)
 unfolding write-order verdict

@@ -14,7 +14,7 @@ use Rattle.front.specs.Front.{listed}
 use Rattle.curve.specs.Curve.{Order}
 use Rattle.curve.specs.Kind.{quintic, inner}
 use Rattle.curve.specs.Card.{latest, Card, knots, knot}
-use Rattle.curve.specs.Log.{count, sum, middle}
+use Rattle.curve.specs.Log.{count, sum, faults, middle}
 use Rattle.curve.specs.Log as Log
 use Rattle.curve.specs.Orders.{write-order, reading-order}
 use Rattle.curve.specs.Exact.{Exact, Near}
@@ -69,7 +69,7 @@ Fit-spares f = Spares (f .answer .number) (length (f .minutes)) (f .slopes) (f .
 
 pub record Demand-1 : Type 0 where
   -- "Every input gets an answer: bad knots, logs, cards and minutes are refused by number and place"
-  -- 16, 12, 13, 19
+  -- 16, 12, 13, 23, 19
   pub mean : (c : A-mean) → Says (Log.mean (first-minute c) (log c)) (c .answer .number) (c .answer .place)
   pub fit : (c : A-fit) → Fit-says (without-ends c)
   pub fit-between : (c : A-fit-between) → Fit-says (between-ends c)
@@ -92,7 +92,7 @@ pub record Demand-1 : Type 0 where
   -- 14, 22, the new card's own, 21
   pub book-put : (c : A-book-put) → Says (Put.put (put-room c) (put-card c) (put-book c)) (c .answer .number) (c .answer .place)
   -- "the numbers beside a refusal are zero"
-  pub mean-zeros : (c : A-mean) → c .answer .number ≢ 0 → (c .answer .minute ≡ 0) × (c .answer .ordinate ≡ pos 0) × (c .answer .good ≡ 0)
+  pub mean-zeros : (c : A-mean) → c .answer .number ≢ 0 → (c .answer .minute ≡ 0) × (c .answer .ordinate ≡ pos 0) × (c .answer .good ≡ 0) × (c .answer .faults ≡ 0)
   pub write-zeros : (c : A-write) → c .answer .number ≢ 0 → c .answer .bytes ≡ 0
   pub check-zeros : (c : A-check) → No-card (c .answer)
   pub read-zeros : (c : A-read) → No-card (c .answer)
@@ -167,10 +167,12 @@ pub record Demand-2 : Type 0 where
   pub fit-between : (c : A-fit-between) → c .answer .number ≡ 0 → Eliminates (between-ends c)
   -- and so of a mended sheet
   pub mend : (c : A-mend) → c .answer .number ≡ 0 → (sheet′ c ≡ of-the-mended c .ordinates) × Eliminates (of-the-mended c)
-  -- "logs give the stated mean": 50 × sum ÷ count over the good bytes, rounded to nearest, ties to even, with their count, at the log's middle, which is a minute that a fit takes
+  -- "logs give the stated mean": 50 × sum ÷ count over the good bytes, rounded to nearest, ties to even, with their count, at the log's middle, which is a minute that a fit takes;
+  -- and the count of the faults: each by its own rule, together the log's length, and the good bytes at least half of it
   pub mean : (c : A-mean) → c .answer .number ≡ 0 →
       (c .answer .minute ≡ middle (first-minute c) (length (log c))) × (c .answer .minute ≤ latest)
       × (c .answer .ordinate ≡ nearest (pos (50 * sum (log c))) (count (log c))) × (c .answer .good ≡ count (log c))
+      × (c .answer .faults ≡ faults (log c)) × (c .answer .good + c .answer .faults ≡ length (log c)) × (length (log c) ≤ 2 * c .answer .good)
   -- "writing a sound card and reading it returns it": what was written is accepted, and read back as it was
   pub written-is-checked : (w : A-write) (c : A-check) → w .answer .number ≡ 0 → checked-bytes c ≡ written-bytes w → Accepts-as (written-card w) (c .answer)
   pub written-is-read : (w : A-write) (r : A-read) → w .answer .number ≡ 0 → read-bytes r ≡ written-bytes w → Room-for (knots (written-card w)) (places r) →
