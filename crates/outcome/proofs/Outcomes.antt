@@ -109,12 +109,17 @@ use Rattle.decimal.proofs.put_worded.Reads as put-worded
 use Rattle.listing.proofs.knot_line.Reads as knot-line
 use Rattle.listing.proofs.refused_line.Reads as refused-line
 use Rattle.listing.proofs.list.Reads as list
+use Rattle.gather.proofs.Knot.plain.Reads as knot-plain
+use Rattle.gather.proofs.Knot.logged.Reads as knot-logged
+use Rattle.gather.proofs.Gathered.refused.Reads as gathered-refused
+use Rattle.gather.proofs.Gathered.with_knot.Reads as gathered-with-knot
+use Rattle.gather.proofs.Gathered.close.Reads as gathered-close
 use Rattle.sheet.proofs.asked.Reads as asked
 use Rattle.sheet.proofs.Intake.new.Reads as intake-new
 use Rattle.sheet.proofs.Intake.done.Reads as intake-done
 use Rattle.sheet.proofs.Intake.step.Reads as intake-step
 use Rattle.sheet.proofs.Intake.close.Reads as intake-close
-use Rattle.sheet.proofs.Sheet.read.Reads as sheet-read
+use Rattle.sheet.proofs.read.Reads as sheet-read
 use Rattle.fit_listing.proofs.list_sheet.Reads as list-sheet
 use Rattle.split.proofs.stop.Reads as split-stop
 use Rattle.split.proofs.until.Reads as split-until
@@ -463,6 +468,9 @@ list-filled = equation _ _
 
 -- ---- what the programs read and print
 
+pub gather : Once knot-plain.Post × Once knot-logged.Post × Once gathered-refused.Post × Once gathered-with-knot.Post × Once gathered-close.Post
+gather = (equation _ _, equation _ _, equation _ _, equation _ _, equation _ _)
+
 pub sheet : Once asked.Post × Once intake-new.Post × Once intake-done.Post × Once intake-step.Post × Once intake-close.Post × Once sheet-read.Post
 sheet = (equation _ _, equation _ _, equation _ _, (λ κs a x y s t p q. one-outcome (p .0) (q .0)), equation _ _, equation _ _)
 
@@ -547,7 +555,7 @@ card-listed = (
 -- ---- the boundary: the parameters stand as in the functions behind it
 
 pub boundary : Once c-mean.Post × Once c-check.Post × Once c-reading.Post
-boundary = (equation _ _, with-more _ _ (equation _ _), equation _ _)
+boundary = (with-more _ _ (equation _ _), with-more _ _ (equation _ _), equation _ _)
 
 pub boundary-fit : Once c-fit.Post × Lent c-fit.Post (λ s. now (s .1 .1 .0)) × Lent c-fit.Post (λ s. now (s .1 .1 .1 .0))
 boundary-fit = fitting _ _ _ _ _
