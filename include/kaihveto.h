@@ -67,12 +67,16 @@ extern "C" {
    input gets another answer. MINOR rises where something is added and all else stays. The archive itself does not carry it:
    take both from one state of the sources.
 
+   3.0: the answer of kaihveto_mean has the faults, behind the good bytes, and is 4 bytes longer for it: a program that calls it
+   is to be compiled anew, since one that was compiled with a header before has too little room for the answer. And the mean needs
+   half of the log's bytes to be good: a log with fewer, which was accepted before or was 19, is refused with 23.
+
    2.1: books are added, kaihveto_book_find and kaihveto_book_put with the refusals 20, 21 and 22.
 
    2.0: kaihveto_mean answers the minute in the log's middle, where 1.2 answered the log's first, and has the refusal 19. Cards
    that were made with the first minutes lead the rooms by half a log, and are to be made anew. */
-#define KAIHVETO_VERSION_MAJOR 2
-#define KAIHVETO_VERSION_MINOR 1
+#define KAIHVETO_VERSION_MAJOR 3
+#define KAIHVETO_VERSION_MINOR 0
 
 /* The end codes. */
 #define KAIHVETO_FREE 0
@@ -131,20 +135,23 @@ enum kaihveto_number {
     KAIHVETO_ROOM_NOT_THERE = 20,      /* the book has no card for that room */
     KAIHVETO_BOOK_FULL = 21,           /* the book would be over 16,384 bytes or over its buffer */
     KAIHVETO_ROOM_NOT_RISING = 22,     /* room not above the one before; place: its record's offset in the book */
+    KAIHVETO_TOO_FEW_GOOD_BYTES = 23,  /* good bytes in the log, but fewer than half of its bytes */
     KAIHVETO_NO_ROOM = 26              /* buffer under 14 + 16n bytes, or lists under n places */
 };
 
 /* The mean of a log of 1 to 60 bytes, one a minute from first_minute on: 0 to 200 are half percents, 255 is a fault and is
-   skipped. The answer has the minute for which the mean stands, its ordinate, and how many bytes were good. That minute is the
-   log's middle: first_minute plus half of log_length, faults among it, without the half of an odd length. It is the one to
-   give to the fit, as the knot's minute, and is at most 65,535.
-   Refusals, in this order: 16, 12, 13, 19. Nothing is written. */
+   skipped. At least half of the bytes have to be good; exactly half is enough. The answer has the minute for which the mean
+   stands, its ordinate, and how many bytes were good and how many were faults, together log_length. That minute is the log's
+   middle: first_minute plus half of log_length, faults among it, without the half of an odd length. It is the one to give to the
+   fit, as the knot's minute, and is at most 65,535.
+   Refusals, in this order: 16, 12, 13, 23, 19. Nothing is written. */
 typedef struct {
     uint32_t number;
     uint32_t place;
     uint32_t minute;
     int32_t ordinate;
     uint32_t good;
+    uint32_t faults;
 } kaihveto_mean_answer;
 
 kaihveto_mean_answer kaihveto_mean(uint16_t first_minute, const uint8_t *log, size_t log_length);
