@@ -13,6 +13,7 @@ pub struct Mean {
     pub minute: u32,
     pub ordinate: i32,
     pub good: u32,
+    pub faults: u32,
 }
 
 /// What the two fits answer.

@@ -87,13 +87,39 @@ fn p7() {
 
 #[test]
 fn p8_to_p12() {
-    let of = |log: &[u8]| mean(60, log).map(|mean| (mean.minute, mean.ordinate, mean.good));
-    assert_eq!(of(&[100, 255, 102]), Ok((61, 5050, 2)));
-    assert_eq!(of(&[0, 0, 0, 1]), Ok((62, 12, 4)));
-    assert_eq!(of(&[0, 1, 1, 1]), Ok((62, 38, 4)));
+    let of = |log: &[u8]| mean(60, log).map(|mean| (mean.minute, mean.ordinate, mean.good, mean.faults));
+    assert_eq!(of(&[100, 255, 102]), Ok((61, 5050, 2, 1)));
+    assert_eq!(of(&[0, 0, 0, 1]), Ok((62, 12, 4, 0)));
+    assert_eq!(of(&[0, 1, 1, 1]), Ok((62, 38, 4, 0)));
     assert_eq!(number_and_place(of(&[255])), (13, 0));
     assert_eq!(number_and_place(of(&[201])), (12, 0));
-    assert_eq!(of(&[100, 255, 255, 102]), Ok((62, 5050, 2)));
+    assert_eq!(of(&[100, 255, 255, 102]), Ok((62, 5050, 2, 2)));
+}
+
+/// So many good bytes, and faults behind them.
+fn log_of(good: usize, faults: usize) -> Vec<u8> {
+    [vec![100; good], vec![255; faults]].concat()
+}
+
+#[test]
+fn half_the_bytes_of_a_log_have_to_be_good() {
+    let counts = |good: usize, faults: usize| mean(0, &log_of(good, faults)).map(|mean| (mean.good, mean.faults));
+    // The order's own: 59 faults and one reading.
+    assert_eq!(number_and_place(counts(1, 59)), (23, 0));
+    assert_eq!([counts(1, 1), counts(2, 2), counts(30, 30)], [Ok((1, 1)), Ok((2, 2)), Ok((30, 30))]);
+    assert_eq!([counts(2, 1), counts(30, 29), counts(31, 29)], [Ok((2, 1)), Ok((30, 29)), Ok((31, 29))]);
+    assert_eq!([counts(1, 2), counts(1, 3), counts(29, 30), counts(29, 31)].map(number_and_place), [(23, 0); 4]);
+    assert_eq!(number_and_place(counts(0, 2)), (13, 0));
+}
+
+#[test]
+fn twenty_three_stands_between_13_and_19() {
+    let from_the_last = |log: &[u8]| number_and_place(mean(65_535, log));
+    assert_eq!(from_the_last(&[100, 255]), (19, 0));
+    assert_eq!(from_the_last(&[100, 255, 255]), (23, 0));
+    assert_eq!(from_the_last(&[255, 255, 255]), (13, 0));
+    assert_eq!(from_the_last(&[255, 100, 255, 254]), (12, 3));
+    assert_eq!(from_the_last(&log_of(1, 60)), (16, 0));
 }
 
 #[test]

@@ -94,7 +94,9 @@ fn number<T>(answer: &Result<T, Refusal>) -> u32 {
 
 pub fn mean(tally: &mut Tally, first: u16, log: &[u8]) {
     let wanted = match reference::mean(first, log) {
-        Ok(mean) => boundary::Mean { minute: mean.minute.into(), ordinate: mean.ordinate, good: mean.good, ..Default::default() },
+        Ok(reference::Mean { minute, ordinate, good, faults }) => {
+            boundary::Mean { minute: minute.into(), ordinate, good, faults, ..Default::default() }
+        }
         Err(Refusal { number, place }) => boundary::Mean { number, place, ..Default::default() },
     };
     tally.count("mean", wanted.number, boundary::mean(first, log), wanted, true, || format!("from {first} of {}", hex(log)));

@@ -128,8 +128,8 @@ impl Asked {
 
     fn mean(&self) -> String {
         let answer = mean(self.minute, &self.log);
-        let shown = answer.unwrap_or(Mean { minute: 0, ordinate: 0, good: 0 });
-        format!("{}; minute {}; ordinate {}; good {}", verdict(&answer), shown.minute, shown.ordinate, shown.good)
+        let Mean { minute, ordinate, good, faults } = answer.unwrap_or(Mean { minute: 0, ordinate: 0, good: 0, faults: 0 });
+        format!("{}; minute {minute}; ordinate {ordinate}; good {good}; faults {faults}", verdict(&answer))
     }
 
     fn fit(&self) -> String {

@@ -29,6 +29,13 @@ impl Random {
         from[self.below(from.len())]
     }
 
+    /// Puts a list into any order.
+    pub fn shuffle<T>(&mut self, list: &mut [T]) {
+        for place in 1..list.len() {
+            list.swap(place, self.below(place + 1));
+        }
+    }
+
     /// True once in so many times.
     pub fn once_in(&mut self, times: usize) -> bool {
         self.below(times) == 0
