@@ -1,6 +1,6 @@
 /* Fits document 01's Table 3 through the C header, writes its card, checks it, reads it back and takes readings off it; then a
-   log's mean, a sheet with two holes mended and put back, and a book of two rooms with a reading off the card that it holds for
-   one of them. What it prints is held against reads_a_card.expected. */
+   log's mean and a log with too few good bytes, a sheet with two holes mended and put back, and a book of two rooms with a
+   reading off the card that it holds for one of them. What it prints is held against reads_a_card.expected. */
 
 #include <stdio.h>
 
@@ -60,7 +60,12 @@ int main(void)
 
     const uint8_t log[3] = {100, 255, 102};
     kaihveto_mean_answer mean = kaihveto_mean(60, log, sizeof log);
-    printf("mean: %u at %u, minute %u, ordinate %d, good %u\n", mean.number, mean.place, mean.minute, mean.ordinate, mean.good);
+    printf("mean: %u at %u, minute %u, ordinate %d, good %u, faults %u\n", mean.number, mean.place, mean.minute, mean.ordinate,
+           mean.good, mean.faults);
+    const uint8_t dead_log[3] = {255, 255, 102};
+    mean = kaihveto_mean(60, dead_log, sizeof dead_log);
+    printf("one good byte of three: %u at %u, minute %u, ordinate %d, good %u, faults %u\n", mean.number, mean.place, mean.minute,
+           mean.ordinate, mean.good, mean.faults);
 
     int16_t sheet[KNOTS] = {500, KAIHVETO_HOLE, 401, KAIHVETO_HOLE, 500};
     kaihveto_change changes[KNOTS];
