@@ -190,8 +190,9 @@ fn compare(inputs: &Inputs, random: &mut Random) {
         same_card(&curves::extreme(random, n).bytes());
     }
     for _ in 0..100_000 {
-        let top = random.pick(&[200, 200, 201, 255]);
-        let log: Vec<u8> = (0..random.below(62)).map(|_| random.within(0, top) as u8).collect();
+        let (top, faulty) = (random.pick(&[200, 200, 201, 255]), random.once_in(2));
+        let byte = |random: &mut Random| if faulty && random.once_in(2) { 255 } else { random.within(0, top) as u8 };
+        let log: Vec<u8> = (0..random.below(62)).map(|_| byte(random)).collect();
         let first = random.pick(&[9, 65_504, 65_505, 65_506, 65_535]);
         assert_eq!(boundary::mean(first, &log), plain::mean(first, &log), "mean from {first} of {log:?}");
     }
