@@ -9,6 +9,7 @@ fn mean(minute: u16, log: &[u8]) {
     print::counted(b"; minute", mean.minute);
     print::named(b"; ordinate", mean.ordinate);
     print::counted(b"; good", mean.good);
+    print::counted(b"; faults", mean.faults);
 }
 
 fn reading(minute: u16, card: &[u8]) {
