@@ -31,16 +31,70 @@ fn fit_number(minutes: &[u16], ordinates: &[i16], left: End, right: End) -> (u32
     number_and_place(fit_ends(minutes, ordinates, &mut slopes, &mut curvatures, left, right))
 }
 
+/// A record of the fitter, of a knot.
+fn knot(minute: u16, ordinate: i16) -> Vec<u8> {
+    [&[4, 0, 4, 0], &minute.to_le_bytes()[..], &ordinate.to_le_bytes()].concat()
+}
+
+/// And of a log.
+fn log(first: u16, bytes: &[u8]) -> Vec<u8> {
+    [&(2 + bytes.len() as u16).to_le_bytes()[..], &[7, 0], &first.to_le_bytes(), bytes].concat()
+}
+
 #[test]
 fn table_3_is_listed() {
-    let mut records = Vec::new();
-    for i in 0..5 {
-        records.extend([4, 0, 4, 0]);
-        records.extend(MINUTES[i].to_le_bytes());
-        records.extend(ORDINATES[i].to_le_bytes());
-    }
-    assert_eq!(fitter(&records), TABLE_3);
+    let records: Vec<Vec<u8>> = (0..5).map(|i| knot(MINUTES[i], ORDINATES[i])).collect();
+    assert_eq!(fitter(&records.concat()), TABLE_3);
     assert_eq!(lister(&table_3_card()), TABLE_3);
+}
+
+/// Its knots as means: a byte of 10 is 5 %. The logs have 1, 0 and 2 faults.
+#[test]
+fn table_3_is_listed_from_logs_with_their_faults() {
+    let records = [knot(0, 500), log(7, &[0, 255]), log(13, &[10; 6]), knot(24, 0), log(30, &[10, 255, 255, 10])];
+    let listed = "\
+0 500 -819200 147200
+8 0 230400 83200 1
+16 500 0 -108800 0
+24 0 -230400 83200
+32 500 819200 147200 2
+ok 5
+";
+    assert_eq!(fitter(&records.concat()), listed);
+    // P8 on a line that rises by 25 hundredths a minute.
+    let records = [knot(59, 5000), log(60, &[100, 255, 102]), knot(63, 5100)];
+    assert_eq!(fitter(&records.concat()), "59 5000 102400 0\n61 5050 102400 0 1\n63 5100 102400 0\nok 3\n");
+}
+
+#[test]
+fn a_logs_refusal_in_the_fitter_stands_at_its_knot() {
+    let at_knot_2 = |first: u16, bytes: &[u8]| fitter(&[knot(0, 0), log(8, &[1, 2]), log(first, bytes)].concat());
+    assert_eq!(at_knot_2(16, &[1, 201]), "refused 12 at 2\n");
+    assert_eq!(at_knot_2(16, &[255]), "refused 13 at 2\n");
+    assert_eq!(at_knot_2(16, &[]), "refused 16 at 2\n");
+    assert_eq!(at_knot_2(16, &[1; 61]), "refused 16 at 2\n");
+    assert_eq!(at_knot_2(65_535, &[1, 1]), "refused 19 at 2\n");
+    assert_eq!(at_knot_2(65_535, &[1, 255, 255]), "refused 23 at 2\n");
+    // The first bad log, whatever its number, and before what the fit refuses at an earlier knot.
+    assert_eq!(fitter(&[knot(8, 0), knot(8, 30_000), log(8, &[255]), log(9, &[201])].concat()), "refused 13 at 2\n");
+    // The fit reads where the logs stand: at 60, as the knot before does, and at 121.
+    assert_eq!(fitter(&[knot(0, 0), knot(60, 0), log(30, &[0; 60])].concat()), "refused 4 at 2\n");
+    assert_eq!(fitter(&[knot(0, 0), knot(60, 0), log(91, &[0; 60])].concat()), "refused 5 at 2\n");
+}
+
+#[test]
+fn the_fitter_goes_14_1_2_before_its_logs() {
+    let bad = log(8, &[255]);
+    let records = |count: usize, behind: &[u8]| fitter(&[bad.repeat(count), behind.to_vec()].concat());
+    assert_eq!((records(2, &[]), records(3, &[])), ("refused 1 at 0\n".to_string(), "refused 13 at 0\n".to_string()));
+    assert_eq!((records(64, &[]), records(65, &[])), ("refused 13 at 0\n".to_string(), "refused 2 at 0\n".to_string()));
+    // Each of these logs takes 7 bytes. The 66th is not looked at.
+    assert_eq!((records(1, &[7]), records(64, &[7])), ("refused 14 at 7\n".to_string(), "refused 14 at 448\n".to_string()));
+    assert_eq!(records(65, &[7]), "refused 2 at 0\n");
+    let short: [&[u8]; 7] = [&[0], &[2, 0, 7], &[2, 0, 7, 0], &[2, 0, 7, 0, 8], &[3, 0, 7, 0, 8, 0], &[0, 0, 7, 0], &[1, 0, 7, 0, 8]];
+    assert_eq!(short.map(|record| records(3, record)), [(); 7].map(|()| "refused 14 at 21\n".to_string()));
+    let wrong: [&[u8]; 3] = [&[2, 0, 4, 0, 8, 0], &[4, 0, 5, 0, 8, 0, 1, 1], &[4, 0, 7, 1, 8, 0, 1, 1]];
+    assert_eq!(wrong.map(|record| records(3, record)), [(); 3].map(|()| "refused 14 at 21\n".to_string()));
 }
 
 #[test]
