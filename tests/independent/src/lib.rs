@@ -12,6 +12,7 @@ pub mod compare;
 pub mod curves;
 #[cfg(all(linked, not(target_arch = "x86_64")))]
 mod far;
+pub mod fitter;
 #[cfg(linked)]
 pub mod groups;
 pub mod lines;

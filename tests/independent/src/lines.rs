@@ -26,11 +26,11 @@ const NAMES: [&str; 14] = [
     "places",
 ];
 
-fn parse<T: FromStr>(word: &str) -> Result<T, String> {
+pub(crate) fn parse<T: FromStr>(word: &str) -> Result<T, String> {
     word.parse().map_err(|_| format!("{word} is no number here"))
 }
 
-fn hexadecimal(word: &str) -> Result<u8, String> {
+pub(crate) fn hexadecimal(word: &str) -> Result<u8, String> {
     u8::from_str_radix(word, 16).map_err(|_| format!("{word} is no byte in hexadecimal"))
 }
 

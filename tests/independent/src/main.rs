@@ -2,6 +2,7 @@
 //! refusal that they should.
 //! `vectors DIR`: runs the reference alone on the vectors of the two programs.
 //! `cases FILE`: prints the lines of the program `cases`, which are the reference's answers to a file of questions.
+//! `fitter FILE N COMMAND ..`: runs the fitter by that command on a file of cases and on N random inputs, beside the reference.
 
 use std::path::Path;
 use std::process::ExitCode;
@@ -38,6 +39,18 @@ fn cases(file: &str) -> bool {
     }
 }
 
+fn fitter(file: &str, random: &str, command: &[&str]) -> bool {
+    let text = std::fs::read_to_string(file).map_err(|error| error.to_string());
+    let random = random.parse().map_err(|_| format!("{random} is no number"));
+    match text.and_then(|text| independent::fitter::run(&text, random?, command)) {
+        Ok(alike) => alike,
+        Err(words) => {
+            eprintln!("{file}: {words}");
+            false
+        }
+    }
+}
+
 fn main() -> ExitCode {
     let words: Vec<String> = std::env::args().skip(1).collect();
     let words: Vec<&str> = words.iter().map(String::as_str).collect();
@@ -45,8 +58,9 @@ fn main() -> ExitCode {
         [] => compare(),
         ["vectors", folder] => vectors(folder),
         ["cases", file] => cases(file),
+        ["fitter", file, random, ref command @ ..] if !command.is_empty() => fitter(file, random, command),
         _ => {
-            eprintln!("usage: independent [vectors DIR | cases FILE]");
+            eprintln!("usage: independent [vectors DIR | cases FILE | fitter FILE N COMMAND ..]");
             return ExitCode::from(2);
         }
     };
