@@ -34,7 +34,7 @@ fn logs_at_the_last_minute(tally: &mut Tally, random: &mut Random) {
     }
 }
 
-/// Logs of every length with about half their bytes good, two fewer to two more: the good ones in front, at the back or anywhere, the
+/// Logs of every length with about half their bytes good, two fewer to three more than half rounded down: the good ones in front, at the back or anywhere, the
 /// middle at the last minute of all, beside it or anywhere; and the same with a byte that means nothing.
 fn logs_about_half(tally: &mut Tally, random: &mut Random) {
     for length in 0..=LONGEST_LOG + 1 {
