@@ -39,7 +39,7 @@ digits-unmarked m f (suc k) n = go (ltb n 10) (digits-unmarked m f k (n / 10))
     go true e = unmarked-more m [] (48 + n % 10) refl (f (n % 10) (omega arith))
     go false e = unmarked-more m (digits k (n / 10)) (48 + n % 10) e (f (n % 10) (omega arith))
 
-no-no-digit : No-digits NoDigit
+pub no-no-digit : No-digits NoDigit
 unfolding marks
 no-no-digit d h = rw (le-ltb (48 + d) 48 (omega arith), le-ltb 57 (48 + d) (omega arith))
 

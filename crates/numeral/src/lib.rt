@@ -5,7 +5,8 @@ ghost use mathlib.Core.Bool.{true};
 ghost use Rattle.decimal.specs.Decimal.{value};
 ghost use Rattle.numeral.specs.Number.{plain, starts, all-digits, padded, at-most, natural, above, below, lone-minus, ordinate};
 
-fn starts(word: &[u8], byte: u8) -> bool
+// Whether its first byte is this one.
+pub fn starts(word: &[u8], byte: u8) -> bool
     ensures { λ r. ⌜ r ≡ starts byte (now (word .entry)) ⌝ }
 {
     0 < word.len() && word[0] == byte

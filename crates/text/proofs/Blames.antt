@@ -1,14 +1,14 @@
 -- The word for which a line is refused, as the code finds it.
 -- Assumes nothing.
-use Prim.Native.Nat.{ℕ, zero, suc, _-_, _≤_, _<_}
+use Prim.Native.Nat.{ℕ, _≤_, _<_}
 use mathlib.Core.Path.{_≡_, refl}
 use mathlib.Core.List.{List, [], _∷_}
 use native.Mathlib.Omega.{arith}
-use lib.ListN.{length, getD}
-use Rattle.split.specs.Parts.{until, past, lines, words, bare}
+use lib.ListN.{length}
+use Rattle.split.specs.Parts.{until, past, words}
 use Rattle.numeral.specs.Number.{natural}
 use Rattle.curve.specs.Card.{latest}
-use Rattle.text.specs.Sheet.{blamed-of, blamed-by, blamed}
+use Rattle.text.specs.Sheet.{blamed-of, blamed-by}
 use Rattle.split.specs.declared.Mark.the-variants.{Blank, Word}
 use Rattle.split.proofs.Words.{no-word}
 use Rattle.text.proofs.Lines.{one, two, three}
@@ -35,12 +35,3 @@ module _ (s : List ℕ) {f : List ℕ} (first : f ≡ past Word s) where
       pub blames-three : 0 < length h → until Blank h ≡ blamed-by (words s)
       unfolding blamed-by
       blames-three l = rw (three s first some second more third l)
-
-pub blames-line : (s : List ℕ) (n : ℕ) → (n ≡ 0 → ⊥) → blamed-by (words (bare (getD (lines s) (n - 1) []))) ≡ blamed s n
-unfolding blamed
-blames-line s zero z = absurd (z refl)
-blames-line s (suc n) z = let e : suc n - 1 ≡ n = omega arith in rw e
-
-pub blames-no-line : (s : List ℕ) (n : ℕ) → n ≡ 0 → [] ≡ blamed s n
-unfolding blamed
-blames-no-line s n z = rw z

@@ -1,4 +1,4 @@
--- Sheets as they are written: a comment, an empty line, a tab, CR LF, a hole; and each thing that can be wrong, with its line. Computed from the definitions; assumes nothing.
+-- Sheets as they are written: a comment, an empty line, a tab, CR LF, a hole, a log; and each thing that can be wrong, with its line. Computed from the definitions; assumes nothing.
 use Prim.Native.Nat.{ℕ}
 use Prim.Native.String.{String}
 use mathlib.Core.Path.{_≡_, refl}
@@ -10,9 +10,9 @@ use Rattle.decimal.specs.Decimal.{spelled, value-from}
 use Rattle.split.specs.Parts.{marks, stop, split, some, words}
 use Rattle.numeral.specs.Number.{not-whole, leading-zero, too-large, starts, at-most, natural, above, below, ordinate}
 use Rattle.holes.specs.Hole.{hole}
-use Rattle.text.specs.Sheet.{too-few, too-many, is-hole, knot-by, line-by, line, blamed-of, blamed-by, blamed, refused, with-knot, taken, goes-on, read, sheet}
+use Rattle.text.specs.Sheet.{too-few, too-many, is-hole, nameless, with-ordinate, behind, knot-by, line-by, line, bare-line, blamed-of, blamed-by, blamed, named, named-by, log-name, refused, with-knot, taken, goes-on, read, sheet}
 use Rattle.text.specs.declared.Line.{Line}
-use Rattle.text.specs.declared.Line.the-variants.{Empty, Knot, Hole, Refused}
+use Rattle.text.specs.declared.Line.the-variants.{Empty, Knot, Hole, Log, Refused}
 
 abbrev written : List String → List ℕ
 written [] = []
@@ -28,7 +28,7 @@ pub sheets :
     (sheet false night .wrong ≡ 0) × (sheet false night .knots ≡ 3) × (take 4 (sheet false night .minutes) ≡ 0 ∷ 8 ∷ 16 ∷ 0 ∷ [])
     × (take 4 (sheet false night .ordinates) ≡ pos 500 ∷ negsuc 39 ∷ pos 0 ∷ pos 0 ∷ []) × (take 4 (sheet false night .lines) ≡ 2 ∷ 4 ∷ 5 ∷ 0 ∷ [])
     × (sheet false (written ("0 0" ∷ "# 1 2 3" ∷ "050 3" ∷ [])) ≡ refused leading-zero 3) × (sheet false [] ≡ refused 0 0)
-unfolding spelled value-from marks stop split some words starts at-most natural above below ordinate knot-by line-by line refused with-knot taken goes-on read sheet
+unfolding spelled value-from marks stop split some words starts at-most natural above below ordinate with-ordinate behind knot-by line-by line refused with-knot taken goes-on read sheet
 sheets = (refl, refl, refl, refl, refl, refl, refl)
 
 abbrev broken : List ℕ
@@ -39,7 +39,7 @@ pub holes :
     (sheet false broken ≡ refused is-hole 2) × (blamed broken 2 ≡ spelled "-") × (sheet true broken .wrong ≡ 0) × (sheet true broken .knots ≡ 3)
     × (take 4 (sheet true broken .ordinates) ≡ pos 500 ∷ hole ∷ pos 0 ∷ pos 0 ∷ []) × (take 4 (sheet true broken .lines) ≡ 1 ∷ 2 ∷ 3 ∷ 0 ∷ [])
     × (sheet true (written ("0 -32768" ∷ [])) ≡ sheet true (written ("0 -" ∷ []))) × (sheet true night ≡ sheet false night)
-unfolding spelled value-from marks stop split some words starts at-most natural above below ordinate knot-by line-by line blamed-of blamed-by blamed refused with-knot taken goes-on read sheet
+unfolding spelled value-from marks stop split some words starts at-most natural above below ordinate with-ordinate behind knot-by line-by line bare-line blamed-of blamed-by refused with-knot taken goes-on read sheet
 holes = (refl, refl, refl, refl, refl, refl, refl, refl)
 
 pub lines :
@@ -48,7 +48,7 @@ pub lines :
     × (a-line "0 32768" ≡ Refused too-large) × (a-line "65535 0" ≡ Knot 65535 (pos 0)) × (a-line "65536 0" ≡ Refused too-large)
     × (a-line "18446744073709551616 0" ≡ Refused too-large) × (a-line "7" ≡ Refused too-few) × (a-line "1 2 3" ≡ Refused too-many)
     × (line (spelled "7" ++ (9 ∷ spelled "8") ++ (13 ∷ [])) ≡ Knot 7 (pos 8)) × (a-line " " ≡ Empty)
-unfolding spelled value-from marks stop split some words starts at-most natural above below ordinate knot-by line-by line
+unfolding spelled value-from marks stop split some words starts at-most natural above below ordinate with-ordinate behind knot-by line-by line
 lines = (refl, refl, refl, refl, refl, refl, refl, refl, refl, refl, refl, refl, refl, refl, refl, refl, refl, refl, refl)
 
 abbrev blamed-in : String → List ℕ
@@ -56,5 +56,27 @@ blamed-in s = blamed (written ("0 0" ∷ s ∷ [])) 2
 
 pub blames :
     (blamed-in "5.5 3" ≡ spelled "5.5") × (blamed-in "3 x # y" ≡ spelled "x") × (blamed-in "7" ≡ spelled "7") × (blamed-in "1 2 3 4" ≡ spelled "3") × (blamed-in "" ≡ [])
-unfolding spelled value-from marks stop split some words starts at-most natural blamed-of blamed-by blamed
+unfolding spelled value-from marks stop split some words starts at-most natural bare-line blamed-of blamed-by
 blames = (refl, refl, refl, refl, refl)
+
+abbrev with-log : List ℕ
+with-log = written ("0 500" ∷ "8 @hour.log # from minute 8" ∷ "16 0" ∷ [])
+
+-- a log is taken whether or not the sheet is to be mended, at its first minute; its name is told by its line
+pub logs :
+    (sheet false with-log .wrong ≡ 0) × (sheet false with-log .knots ≡ 3) × (take 4 (sheet false with-log .minutes) ≡ 0 ∷ 8 ∷ 16 ∷ 0 ∷ [])
+    × (take 4 (sheet false with-log .ordinates) ≡ pos 500 ∷ pos 0 ∷ pos 0 ∷ pos 0 ∷ []) × (take 4 (sheet false with-log .logs) ≡ false ∷ true ∷ false ∷ false ∷ [])
+    × (sheet true with-log ≡ sheet false with-log) × (log-name with-log 2 ≡ spelled "hour.log") × (log-name with-log 1 ≡ []) × (log-name with-log 0 ≡ []) × (log-name with-log 9 ≡ [])
+unfolding spelled value-from marks stop split some words starts at-most natural above below ordinate with-ordinate behind knot-by line-by line bare-line named named-by refused with-knot taken goes-on read sheet
+logs = (refl, refl, refl, refl, refl, refl, refl, refl, refl, refl)
+
+-- what is wrong with a log's line, the minute first, and the word to blame; a '@' in another place is part of a word
+pub log-lines :
+    (a-line "8 @a" ≡ Log 8) × (a-line "8 @@" ≡ Log 8) × (a-line "65535 @0" ≡ Log 65535) × (a-line "8 @" ≡ Refused nameless) × (a-line "8 @#a" ≡ Refused nameless) × (a-line "8 @ a" ≡ Refused too-many) × (a-line "@a" ≡ Refused too-few)
+    × (a-line "65536 @a" ≡ Refused too-large) × (a-line "x @" ≡ Refused not-whole) × (a-line "08 @" ≡ Refused leading-zero) × (a-line "8 a@" ≡ Refused not-whole) × (a-line "@8 1" ≡ Refused not-whole)
+unfolding spelled value-from marks stop split some words starts at-most natural above below ordinate with-ordinate behind knot-by line-by line
+log-lines = (refl, refl, refl, refl, refl, refl, refl, refl, refl, refl, refl, refl)
+
+pub log-blames : (blamed-in "8 @" ≡ spelled "@") × (blamed-in "x @a" ≡ spelled "x") × (blamed-in "8 @a b" ≡ spelled "b") × (log-name (written ("8 a" ∷ "8 @a b" ∷ [])) 2 ≡ spelled "a")
+unfolding spelled value-from marks stop split some words starts at-most natural bare-line blamed-of blamed-by named named-by
+log-blames = (refl, refl, refl, refl)

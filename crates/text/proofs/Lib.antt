@@ -1,5 +1,6 @@
 pub mod Lines
 pub mod Blames
+pub mod Names
 pub mod Readings
 pub mod Room
 pub mod Written

@@ -1,12 +1,12 @@
--- A line by its words, as the code finds them one after the other.
+-- A line by its words, as the code finds them one after the other, and by its number.
 -- Assumes nothing.
-use Prim.Native.Nat.{ℕ, _≤_, _<_}
-use mathlib.Core.Path.{_≡_, ap, _∙_}
-use mathlib.Core.List.{List, _∷_}
+use Prim.Native.Nat.{ℕ, zero, suc, _-_, _≤_, _<_}
+use mathlib.Core.Path.{_≡_, refl, ap, _∙_}
+use mathlib.Core.List.{List, [], _∷_}
 use native.Mathlib.Omega.{arith}
-use lib.ListN.{length}
-use Rattle.split.specs.Parts.{until, past, words}
-use Rattle.text.specs.Sheet.{too-few, too-many, knot, line-by}
+use lib.ListN.{length, getD}
+use Rattle.split.specs.Parts.{until, past, lines, words, bare}
+use Rattle.text.specs.Sheet.{too-few, too-many, knot, line-by, bare-line}
 use Rattle.split.specs.declared.Mark.the-variants.{Blank, Word}
 use Rattle.text.specs.declared.Line.the-variants.{Empty, Refused}
 use Rattle.split.proofs.Words.{no-word, next-word}
@@ -42,3 +42,14 @@ module _ (s : List ℕ) {f : List ℕ} (first : f ≡ past Word s) where
 
       pub three : 0 < length h → words s ≡ until Blank f ∷ until Blank g ∷ until Blank h ∷ words (past Blank h)
       three l = two ∙ ap (λ ws. until Blank f ∷ until Blank g ∷ ws) (rw third (next-word (past Blank g) (rw third at l)))
+
+-- ---- by its number
+
+pub line-of-number : (s : List ℕ) (n : ℕ) → (n ≡ 0 → ⊥) → bare (getD (lines s) (n - 1) []) ≡ bare-line s n
+unfolding bare-line
+line-of-number s zero z = absurd (z refl)
+line-of-number s (suc n) z = let e : suc n - 1 ≡ n = omega arith in rw e
+
+pub no-line : (s : List ℕ) (n : ℕ) → n ≡ 0 → [] ≡ bare-line s n
+unfolding bare-line
+no-line s n z = rw z

@@ -6,14 +6,14 @@ use mathlib.Core.Bool.{Bool, true, false, cond}
 use mathlib.Core.List.{List, [], _∷_}
 use native.Mathlib.Omega.{arith}
 use lib.Dec.{ltb, eqb}
-use lib.IntN.{ℤ}
+use lib.IntN.{ℤ, pos}
 use lib.ListN.{length, length-set}
 use borrow.Author.Tests.{ltb-true}
 use Rattle.split.specs.Parts.{lines}
 use Rattle.holes.specs.Hole.{hole}
 use Rattle.text.specs.Sheet.{too-long, is-hole, line, most, refused, with-knot, taken, goes-on, read, longest, sheet}
 use Rattle.text.specs.declared.Line.{Line}
-use Rattle.text.specs.declared.Line.the-variants.{Empty, Knot, Hole, Refused}
+use Rattle.text.specs.declared.Line.the-variants.{Empty, Knot, Hole, Log, Refused}
 use Rattle.text.specs.declared.Sheet.{Sheet}
 use Rattle.numeral.proofs.Values.{second}
 
@@ -22,19 +22,21 @@ pub record Roomy (a : Sheet) : Type 0 where
   pub minutes : length (a .minutes) ≡ most
   pub ordinates : length (a .ordinates) ≡ most
   pub lines : length (a .lines) ≡ most
+  pub logs : length (a .logs) ≡ most
 
 roomy-refused : (wrong n : ℕ) → Roomy (refused wrong n)
 unfolding refused
-roomy-refused wrong n = record { few = omega arith; minutes = refl; ordinates = refl; lines = refl }
+roomy-refused wrong n = record { few = omega arith; minutes = refl; ordinates = refl; lines = refl; logs = refl }
 
-roomy-with-knot : {a : Sheet} → Roomy a → a .knots < most → (n x : ℕ) (y : ℤ) → Roomy (with-knot a n x y)
+roomy-with-knot : {a : Sheet} → Roomy a → a .knots < most → (n x : ℕ) (y : ℤ) (log : Bool) → Roomy (with-knot a n x y log)
 unfolding with-knot
-roomy-with-knot {a} r h n x y =
+roomy-with-knot {a} r h n x y log =
     record {
       few = omega arith;
       minutes = length-set (a .minutes) (a .knots) x ∙ r .minutes;
       ordinates = length-set (a .ordinates) (a .knots) y ∙ r .ordinates;
       lines = length-set (a .lines) (a .knots) n ∙ r .lines;
+      logs = length-set (a .logs) (a .knots) log ∙ r .logs;
     }
 
 has-room : (a : Sheet) → goes-on a ≡ true → a .knots < most
@@ -45,8 +47,9 @@ roomy-taken : (mends : Bool) {a : Sheet} → Roomy a → a .knots < most → (n 
 unfolding taken
 roomy-taken mends r h n Empty = r
 roomy-taken mends r h n (Refused wrong) = roomy-refused wrong n
-roomy-taken mends r h n (Knot x y) = roomy-with-knot r h n x y
-roomy-taken true r h n (Hole x) = roomy-with-knot r h n x hole
+roomy-taken mends r h n (Knot x y) = roomy-with-knot r h n x y false
+roomy-taken mends r h n (Log x) = roomy-with-knot r h n x (pos 0) true
+roomy-taken true r h n (Hole x) = roomy-with-knot r h n x hole false
 roomy-taken false r h n (Hole x) = roomy-refused is-hole n
 
 module _ (mends : Bool) where

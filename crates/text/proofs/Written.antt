@@ -1,34 +1,36 @@
--- A knot as the listing writes its first two numbers, minute and ordinate, is read as that knot; a line that is a knot has these two words and no other, and one that is a hole its minute and a minus.
+-- A knot as the listing writes its first two numbers, minute and ordinate, is read as that knot; a line that is a knot has these two words and no other, one that is a hole its minute and a minus, and one
+-- that is a log its minute and a '@' with a name.
 -- Assumes nothing.
 use Prim.Native.Nat.{ℕ, suc, _+_, _≤_, _<_}
 use mathlib.Core.Path.{_≡_, refl, ap, _∙_}
-use mathlib.Core.Bool.{false}
+use mathlib.Core.Bool.{Bool, true, false, cond}
 use mathlib.Core.List.{List, [], _∷_, _++_}
 use native.Mathlib.Omega.{arith}
-use lib.Dec.{lit<}
+use lib.Dec.{lit<, eqb}
 use lib.IntN.{ℤ, pos, negsuc}
 use lib.ListN.{length, length-append}
 use lib.Seq.{take-all}
-use borrow.Author.Tests.{ne-eqb}
+use borrow.Author.Tests.{ne-eqb, eqb-true, eqb-false}
 use mir.Syntax.{w16}
 use mir.Val.{SFits}
 use Rattle.decimal.specs.Decimal.{places, decimal, minus, signed}
 use Rattle.split.specs.Parts.{marks, stop, split, some, words, bare}
 use Rattle.split.specs.declared.Mark.{Mark}
-use Rattle.split.specs.declared.Mark.the-variants.{Note, Blank}
+use Rattle.split.specs.declared.Mark.the-variants.{Note, Blank, NoDigit}
 use Rattle.split.proofs.Unmarked.{stop-behind, cut, uncut}
 use Rattle.split.proofs.Words.{kept}
-use Rattle.numeral.specs.Number.{natural, ordinate}
+use Rattle.numeral.specs.Number.{starts, natural, ordinate}
 use Rattle.numeral.specs.declared.Number.{Number}
 use Rattle.numeral.specs.declared.Number.the-variants.{Whole, Bad}
 use Rattle.numeral.specs.declared.Ordinate.{Ordinate}
 use Rattle.numeral.specs.declared.Ordinate.the-variants.{Given, Hole as Missing, Wrong}
 use Rattle.numeral.proofs.OneSpelling.{one-spelling, one-ordinate, one-hole}
-use Rattle.numeral.proofs.Spelled.{No-digits, digits-unmarked, some-digit, decimal-read, signed-read}
+use Rattle.numeral.proofs.Numbers.{starts-some}
+use Rattle.numeral.proofs.Spelled.{No-digits, digits-unmarked, no-no-digit, some-digit, decimal-read, signed-read}
 use Rattle.curve.specs.Card.{latest}
-use Rattle.text.specs.Sheet.{knot-by, knot, line-by, line}
+use Rattle.text.specs.Sheet.{nameless, at-sign, with-ordinate, behind, knot-by, knot, line-by, line, named, named-by}
 use Rattle.text.specs.declared.Line.{Line}
-use Rattle.text.specs.declared.Line.the-variants.{Empty, Knot, Hole, Refused}
+use Rattle.text.specs.declared.Line.the-variants.{Empty, Knot, Hole, Log, Refused}
 
 no-note : No-digits Note
 unfolding marks
@@ -65,10 +67,25 @@ its-words x y =
     ∙ ap (λ ps. decimal x ∷ some ps) (uncut Blank (signed y) (signed-unmarked Blank no-blank refl y))
     ∙ ap (λ ps. decimal x ∷ ps) (kept (signed y) [] (some-byte y))
 
+-- a word without marks does not start with a byte that is marked
+unmarked : (m : Mark) (w : List ℕ) (b : ℕ) → stop m w ≡ length w → marks m b ≡ true → starts b w ≡ false
+unfolding stop starts
+unmarked m [] b e t = refl
+unmarked m (x ∷ w) b e t = go (eqb x b) refl
+  where
+    go : (same : Bool) → eqb x b ≡ same → same ≡ false
+    go false s = refl
+    go true s = let x-marked : marks m x ≡ true = ap (marks m) (eqb-true x b s) ∙ t in absurd (let h = rw x-marked at e in omega arith)
+
+no-at-sign : (z : ℤ) → starts at-sign (signed z) ≡ false
+unfolding marks signed starts
+no-at-sign (pos n) = unmarked NoDigit (decimal n) at-sign (digits-unmarked NoDigit no-no-digit places n) refl
+no-at-sign (negsuc n) = refl
+
 -- a knot as the listing writes its first two numbers
 pub line-read : (x : ℕ) (y : ℤ) → x ≤ latest → SFits w16 y → line (written x y) ≡ Knot x y
-unfolding knot-by line-by line
-line-read x y l f = rw (no-comment x y, its-words x y, decimal-read x (omega arith) latest l, signed-read y f)
+unfolding with-ordinate behind knot-by line-by line
+line-read x y l f = rw (no-comment x y, its-words x y, decimal-read x (omega arith) latest l, no-at-sign y, signed-read y f)
 
 -- ---- the other way
 
@@ -78,16 +95,40 @@ Two Empty ws = Unit {0}
 Two (Refused wrong) ws = Unit {0}
 Two (Knot n z) ws = ws ≡ decimal n ∷ signed z ∷ []
 Two (Hole n) ws = ws ≡ decimal n ∷ (minus ∷ []) ∷ []
+Two (Log n) ws = (ws ≡ decimal n ∷ (at-sign ∷ named-by ws) ∷ []) × (0 < length (named-by ws))
 
-two-of-knot : (x y : List ℕ) → Two (knot x y) (x ∷ y ∷ [])
-unfolding knot-by
-two-of-knot x y = go (natural latest x) refl (ordinate y) refl
+-- behind a minute
+module _ (n : ℕ) (w : List ℕ) where
+  two-with-ordinate : (y : Ordinate) → ordinate w ≡ y → Two (with-ordinate n y) (decimal n ∷ w ∷ [])
+  unfolding with-ordinate
+  two-with-ordinate (Wrong wrong) e = tt
+  two-with-ordinate Missing e = rw (one-hole w e)
+  two-with-ordinate (Given z) e = rw (one-ordinate w e)
+
+two-named : (n : ℕ) (w : List ℕ) → starts at-sign w ≡ true → Two (cond (eqb (length w) 1) (Refused nameless) (Log n)) (decimal n ∷ w ∷ [])
+unfolding starts named named-by
+two-named n [] e = absurd (omega (arith, starts-some at-sign [] e))
+two-named n (b ∷ w) e = go (eqb (suc (length w)) 1) refl
   where
-    go : (a : Number) → natural latest x ≡ a → (b : Ordinate) → ordinate y ≡ b → Two (knot-by a b) (x ∷ y ∷ [])
-    go (Bad wrong) d b o = tt
-    go (Whole n) d (Wrong wrong) o = tt
-    go (Whole n) d Missing o = rw (one-spelling latest x (lit< tt) d, one-hole y o)
-    go (Whole n) d (Given z) o = rw (one-spelling latest x (lit< tt) d, one-ordinate y o)
+    go : (bare : Bool) → eqb (suc (length w)) 1 ≡ bare → Two (cond bare (Refused nameless) (Log n)) (decimal n ∷ (b ∷ w) ∷ [])
+    go true s = tt
+    go false s = rw (e, eqb-true b at-sign e) (refl, omega (arith, eqb-false (suc (length w)) 1 s))
+
+two-behind : (n : ℕ) (w : List ℕ) → Two (behind n w) (decimal n ∷ w ∷ [])
+unfolding behind
+two-behind n w = go (starts at-sign w) refl
+  where
+    go : (named : Bool) → starts at-sign w ≡ named → Two (cond named (cond (eqb (length w) 1) (Refused nameless) (Log n)) (with-ordinate n (ordinate w))) (decimal n ∷ w ∷ [])
+    go true e = two-named n w e
+    go false e = two-with-ordinate n w (ordinate w) refl
+
+two-of-knot : (x w : List ℕ) → Two (knot x w) (x ∷ w ∷ [])
+unfolding knot-by
+two-of-knot x w = go (natural latest x) refl
+  where
+    go : (a : Number) → natural latest x ≡ a → Two (knot-by a w) (x ∷ w ∷ [])
+    go (Bad wrong) d = tt
+    go (Whole n) d = rw (one-spelling latest x (lit< tt) d) (two-behind n w)
 
 two-words : (l : List ℕ) → Two (line l) (words (bare l))
 unfolding line line-by
@@ -96,11 +137,16 @@ two-words l = go (words (bare l))
     go : (ws : List (List ℕ)) → Two (line-by ws) ws
     go [] = tt
     go (x ∷ []) = tt
-    go (x ∷ y ∷ []) = two-of-knot x y
-    go (x ∷ y ∷ v ∷ ws) = tt
+    go (x ∷ w ∷ []) = two-of-knot x w
+    go (x ∷ w ∷ v ∷ ws) = tt
 
-pub knot-is-two-words : (l : List ℕ) {n : ℕ} {z : ℤ} → line l ≡ Knot n z → words (bare l) ≡ decimal n ∷ signed z ∷ []
-knot-is-two-words l e = rw e at (two-words l)
+module _ (l : List ℕ) {n : ℕ} where
+  pub knot-is-two-words : {z : ℤ} → line l ≡ Knot n z → words (bare l) ≡ decimal n ∷ signed z ∷ []
+  knot-is-two-words e = rw e at (two-words l)
 
-pub hole-is-two-words : (l : List ℕ) {n : ℕ} → line l ≡ Hole n → words (bare l) ≡ decimal n ∷ (minus ∷ []) ∷ []
-hole-is-two-words l e = rw e at (two-words l)
+  pub hole-is-two-words : line l ≡ Hole n → words (bare l) ≡ decimal n ∷ (minus ∷ []) ∷ []
+  hole-is-two-words e = rw e at (two-words l)
+
+  -- the second is a '@' and the name, which has a byte
+  pub log-is-two-words : line l ≡ Log n → (words (bare l) ≡ decimal n ∷ (at-sign ∷ named-by (words (bare l))) ∷ []) × (0 < length (named-by (words (bare l))))
+  log-is-two-words e = rw e at (two-words l)

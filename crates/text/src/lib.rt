@@ -1,17 +1,18 @@
-// A sheet as text: a line is a knot, its minute and its ordinate, or a hole in place of the ordinate. Any bytes, of any length, are answered.
+// A sheet as text: a line is a knot, its minute and its ordinate, or in place of the ordinate a hole, or '@' and the name of a log's file. Any bytes, of any length, are answered.
 use numeral::Number;
 use numeral::Ordinate;
 use split::Mark;
 ghost use mathlib.Core.Path.{_≡_};
 ghost use Prim.Native.Nat.{_<_};
 ghost use Rattle.split.specs.Parts.{words};
-ghost use Rattle.text.specs.Sheet.{blamed-by, blamed, knot, line-by, line, most, refused, with-knot, taken, sheet};
+ghost use Rattle.text.specs.Sheet.{with-ordinate, behind, knot, line-by, line, bare-line, blamed-by, blamed, named, named-by, log-name, most, refused, with-knot, taken, sheet};
 
 // What a line is.
 pub enum Line {
     Empty,
     Knot(u16, i16),
     Hole(u16),
+    Log(u16),
     Refused(u32),
 }
 
@@ -23,16 +24,37 @@ impl Line {
 
     pub const TOO_MANY: u32 = 5;
 
-    fn knot(minute: &[u8], ordinate: &[u8]) -> Line
-        ensures { λ r. ⌜ r ≡ knot (now (minute .entry)) (now (ordinate .entry)) ⌝ }
+    // A '@' with no name behind it.
+    pub const NAMELESS: u32 = 8;
+
+    fn with_ordinate(x: u16, ordinate: Ordinate) -> Line
+        ensures { λ r. ⌜ r ≡ with-ordinate x ordinate ⌝ }
+    {
+        match ordinate {
+            Ordinate::Wrong(wrong) => Line::Refused(wrong),
+            Ordinate::Hole => Line::Hole(x),
+            Ordinate::Given(y) => Line::Knot(x, y),
+        }
+    }
+
+    fn behind(x: u16, word: &[u8]) -> Line
+        ensures { λ r. ⌜ r ≡ behind x (now (word .entry)) ⌝ }
+    {
+        if numeral::starts(word, b'@') {
+            if word.len() == 1 {
+                return Line::Refused(Line::NAMELESS);
+            }
+            return Line::Log(x);
+        }
+        Line::with_ordinate(x, Ordinate::of(word))
+    }
+
+    fn knot(minute: &[u8], word: &[u8]) -> Line
+        ensures { λ r. ⌜ r ≡ knot (now (minute .entry)) (now (word .entry)) ⌝ }
     {
         match Number::natural(minute, Line::LATEST) {
             Number::Bad(wrong) => Line::Refused(wrong),
-            Number::Whole(x) => match Ordinate::of(ordinate) {
-                Ordinate::Wrong(wrong) => Line::Refused(wrong),
-                Ordinate::Hole => Line::Hole(x as u16),
-                Ordinate::Given(y) => Line::Knot(x as u16, y),
-            },
+            Number::Whole(x) => Line::behind(x as u16, word),
         }
     }
 
@@ -86,17 +108,47 @@ fn blamed_word(text: &[u8]) -> &[u8]
     }
 }
 
-// The word for which the line of that number, from 1, is refused.
-pub fn blamed(text: &[u8], line: u32) -> &[u8]
-    ensures { λ r. ⌜ now r ≡ blamed (now (text .entry)) line ⌝ }
+fn bare_line(text: &[u8], line: u32) -> &[u8]
+    ensures { λ r. ⌜ now r ≡ bare-line (now (text .entry)) line ⌝ }
 {
     if line == 0 {
         return split::from(text, text.len());
     }
-    blamed_word(split::until(Mark::Note, split::line_at(text, line - 1)))
+    split::until(Mark::Note, split::line_at(text, line - 1))
 }
 
-// What is wrong and on which line, or 0 and 0; how many knots there are, and at the front of three arrays their numbers and the line of each.
+// The word for which the line of that number, from 1, is refused.
+pub fn blamed(text: &[u8], line: u32) -> &[u8]
+    ensures { λ r. ⌜ now r ≡ blamed (now (text .entry)) line ⌝ }
+{
+    blamed_word(bare_line(text, line))
+}
+
+fn named(word: &[u8]) -> &[u8]
+    ensures { λ r. ⌜ now r ≡ named (now (word .entry)) ⌝ }
+{
+    if numeral::starts(word, b'@') {
+        return split::from(word, 1);
+    }
+    split::from(word, word.len())
+}
+
+fn named_word(text: &[u8]) -> &[u8]
+    ensures { λ r. ⌜ now r ≡ named-by (words (now (text .entry))) ⌝ }
+{
+    let first = split::past(Mark::Word, text);
+    let second = split::past(Mark::Word, split::past(Mark::Blank, first));
+    named(split::until(Mark::Blank, second))
+}
+
+// What stands behind the '@' of the second word on the line of that number, from 1; nothing where there is none.
+pub fn log_name(text: &[u8], line: u32) -> &[u8]
+    ensures { λ r. ⌜ now r ≡ log-name (now (text .entry)) line ⌝ }
+{
+    named_word(bare_line(text, line))
+}
+
+// What is wrong and on which line, or 0 and 0; how many knots there are, and at the front of four arrays their numbers, the line of each, and whether it is a log's: its minute is then the log's first one, and its ordinate 0.
 pub struct Sheet {
     pub wrong: u32,
     pub line: u32,
@@ -104,6 +156,7 @@ pub struct Sheet {
     pub minutes: [u16; Sheet::MOST],
     pub ordinates: [i16; Sheet::MOST],
     pub lines: [u32; Sheet::MOST],
+    pub logs: [bool; Sheet::MOST],
 }
 
 impl Sheet {
@@ -128,20 +181,23 @@ impl Sheet {
             minutes: [0; Sheet::MOST],
             ordinates: [0; Sheet::MOST],
             lines: [0; Sheet::MOST],
+            logs: [false; Sheet::MOST],
         }
     }
 
-    fn with_knot(self, line: u32, minute: u16, ordinate: i16) -> Sheet
+    fn with_knot(self, line: u32, minute: u16, ordinate: i16, log: bool) -> Sheet
         requires { ⌜ self .knots < most ⌝ }
-        ensures { λ r. ⌜ r ≡ with-knot self line minute ordinate ⌝ }
+        ensures { λ r. ⌜ r ≡ with-knot self line minute ordinate log ⌝ }
     {
         let knots = self.knots;
         let mut minutes = self.minutes;
         let mut ordinates = self.ordinates;
         let mut lines = self.lines;
+        let mut logs = self.logs;
         minutes[knots] = minute;
         ordinates[knots] = ordinate;
         lines[knots] = line;
+        logs[knots] = log;
         Sheet {
             wrong: 0,
             line: 0,
@@ -149,6 +205,7 @@ impl Sheet {
             minutes,
             ordinates,
             lines,
+            logs,
         }
     }
 
@@ -159,10 +216,11 @@ impl Sheet {
         match found {
             Line::Empty => self,
             Line::Refused(wrong) => Sheet::refused(wrong, line),
-            Line::Knot(x, y) => self.with_knot(line, x, y),
+            Line::Knot(x, y) => self.with_knot(line, x, y, false),
+            Line::Log(x) => self.with_knot(line, x, 0, true),
             Line::Hole(x) => {
                 if mends {
-                    return self.with_knot(line, x, holes::MARK);
+                    return self.with_knot(line, x, holes::MARK, false);
                 }
                 Sheet::refused(Sheet::HOLE, line)
             }
