@@ -1,3 +1,5 @@
 pub mod Replies
+pub mod Slots
+pub mod Gathers
 pub mod Lists
 pub mod Places

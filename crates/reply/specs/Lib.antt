@@ -1,2 +1,3 @@
+pub mod Knots
 pub mod Reply
 pub mod Mending

@@ -1,4 +1,4 @@
--- What the text of a sheet with holes is answered with: the reply to the mended knots, the changes, and the lines of the knots. Document 02, order 1.
+-- What the text of a sheet with holes, with the logs that it names, is answered with: the reply to the mended knots, the changes, and the lines of the knots. Document 02, orders 1 and 4.
 -- Assumes nothing.
 use Prim.Native.Nat.{ℕ}
 use mathlib.Core.Path.{_≡_}
@@ -17,6 +17,8 @@ use Rattle.mend.specs.Order.{mend}
 use Rattle.mend.specs.Changes.{changes}
 use Rattle.mend.specs.Promise.{made, ordinates-after, plan-of}
 use Rattle.text.specs.Sheet.{most, sheet}
+use Rattle.gather.specs.declared.Gathered.{Gathered}
+use Rattle.reply.specs.Knots.{gathered}
 use Rattle.reply.specs.Reply.{Reply, reply-of, ToKnots, text-reply, Answers}
 use Rattle.reply.specs.declared.Mending.{Mending}
 
@@ -26,24 +28,27 @@ room = places
 
 -- to these knots mended, between free ends
 abbrev pub mend-reply : ToKnots
-mend-reply xs ys ms Ms lines card =
+mend-reply xs ys ms Ms faults lines card =
     let f = mend xs ys (length ms) (length Ms) room in
-    reply-of (number f) (place f) (lent xs (ordinates-after f ys) (slopes-after f ms) (curvatures-after f Ms) 0 0) lines card
+    reply-of (number f) (place f) (lent xs (ordinates-after f ys) (slopes-after f ms) (curvatures-after f Ms) 0 0) faults lines card
 
-abbrev pub mending-reply : (text card : List ℕ) → Reply
+abbrev pub mending-reply : (text logs card : List ℕ) → Reply
 mending-reply = text-reply true mend-reply
 
 -- the changes of these knots
 abbrev pub knots-plan : (xs : List ℕ) (ys ms Ms : List ℤ) → Plan
 knots-plan xs ys ms Ms = let f = mend xs ys (length ms) (length Ms) room in plan-of (number f) (place f) (made f (changes ys (mended xs ys)))
 
--- none in a text that is no sheet
-unfoldable pub text-plan : List ℕ → Plan
-text-plan s =
-    let a = sheet true s in
-    let n = a .knots in
+-- none where they are refused as they are gathered
+unfoldable pub gathered-plan : Gathered → Plan
+gathered-plan g =
+    let n = g .knots in
     let zeros = take n (replicate most (pos 0)) in
-    cond (eqb (a .wrong) 0) (knots-plan (take n (a .minutes)) (take n (a .ordinates)) zeros zeros) (plan-of 0 0 [])
+    cond (eqb (g .number) 0) (knots-plan (take n (g .minutes)) (take n (g .ordinates)) zeros zeros) (plan-of (g .number) (g .place) [])
+
+-- none in a text that is no sheet
+unfoldable pub text-plan : (text logs : List ℕ) → Plan
+text-plan s logs = let a = sheet true s in cond (eqb (a .wrong) 0) (gathered-plan (gathered a logs)) (plan-of 0 0 [])
 
 -- the reply was given, and these are the changes and the lines beside it
 pub record Mends (p : Reply) (plan : Plan) (ls to to′ card′ : List ℕ) (r : Mending) : Type 0 where

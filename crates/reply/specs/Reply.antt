@@ -1,4 +1,4 @@
--- What the text of a sheet is answered with: what is said, the status, and the card's bytes.
+-- What the text of a sheet, with the logs that it names, is answered with: what is said, the status, and the card's bytes.
 -- Assumes nothing.
 use Prim.Native.Nat.{ℕ}
 use mathlib.Core.Path.{_≡_}
@@ -20,13 +20,19 @@ use Rattle.fit.specs.Fit.{fit}
 use Rattle.fit.specs.Promise.{slopes-after, curvatures-after}
 use Rattle.decimal.specs.Put.{Put}
 use Rattle.listing.specs.Text.{listing}
+use Rattle.gather.specs.declared.Gathered.{Gathered}
 use Rattle.text.specs.Sheet.{most, sheet, blamed as blamed-word}
 use Rattle.words.specs.Said.{refused-line, wrong-line}
 use Rattle.reply.specs.declared.Answered.{Answered}
+use Rattle.reply.specs.Knots.{gathered}
 
--- the place of 4 to 10 and of 17 is a knot
+-- what a log is refused with
+abbrev pub of-a-log : ℕ → Bool
+of-a-log number = eqb number 12 || eqb number 13 || eqb number 16 || eqb number 19 || eqb number 23
+
+-- the place of 4 to 10 and of 17 is a knot, and in a sheet that of a log's refusal too
 abbrev pub of-a-knot : ℕ → Bool
-of-a-knot number = eqb number 17 || (ltb 3 number && ltb number 11)
+of-a-knot number = of-a-log number || eqb number 17 || (ltb 3 number && ltb number 11)
 
 -- the line of the knot that is refused; 0 where no knot is
 unfoldable pub blamed : List ℕ → ℕ → ℕ → ℕ
@@ -42,35 +48,44 @@ pub record Reply : Type 0 where
 unfoldable pub refusing : List ℕ → List ℕ → Reply
 refusing words card = record { words = words; status = 49; card = card; size = 0 }
 
--- the listing of a card, and its bytes
-unfoldable pub listing-of : Card → List ℕ → Reply
-listing-of c card =
+-- to knots that are refused, which stand on these lines
+abbrev pub refusing-knots : (number place : ℕ) → (lines card : List ℕ) → Reply
+refusing-knots number place lines card = refusing (refused-line number place (blamed lines number place)) card
+
+-- the listing of a card and of its logs' faults, and its bytes
+unfoldable pub listing-of : Card → (faults card : List ℕ) → Reply
+listing-of c faults card =
     let order = write-order quintic c (length card) in
-    record { words = listing 0 0 (c .minutes) (c .ordinates) (c .slopes) (c .curvatures); status = 48; card = lent-after order (bytes-of quintic-head c) card; size = written order (size (knots c)) .bytes }
+    record { words = listing 0 0 (c .minutes) (c .ordinates) (c .slopes) (c .curvatures) faults; status = 48; card = lent-after order (bytes-of quintic-head c) card; size = written order (size (knots c)) .bytes }
 
--- to knots that are refused with a number at a place, or to the card that was made of them; they stand on these lines
-unfoldable pub reply-of : (number place : ℕ) → Card → (lines card : List ℕ) → Reply
-reply-of number place c lines card = cond (eqb number 0) (listing-of c card) (refusing (refused-line number place (blamed lines number place)) card)
+-- to knots that are refused with a number at a place, or to the card that was made of them; they have these faults, and stand on these lines
+unfoldable pub reply-of : (number place : ℕ) → Card → (faults lines card : List ℕ) → Reply
+reply-of number place c faults lines card = cond (eqb number 0) (listing-of c faults card) (refusing-knots number place lines card)
 
--- to knots by their minutes and ordinates, with two lent lists for the slopes and curvatures, the lines on which they stand and the buffer for the card
+-- to knots by their minutes and ordinates, with two lent lists for the slopes and curvatures, their logs' faults, the lines on which they stand and the buffer for the card
 abbrev pub ToKnots : Type 0
-ToKnots = (xs : List ℕ) (ys ms Ms : List ℤ) (lines card : List ℕ) → Reply
+ToKnots = (xs : List ℕ) (ys ms Ms : List ℤ) (faults lines card : List ℕ) → Reply
 
 -- the fit's; its ends are free
 abbrev pub fit-reply : ToKnots
-fit-reply xs ys ms Ms lines card =
+fit-reply xs ys ms Ms faults lines card =
     let f = fit xs ys (length ms) (length Ms) in
-    reply-of (number f) (place f) (lent xs ys (slopes-after f ms) (curvatures-after f Ms) 0 0) lines card
+    reply-of (number f) (place f) (lent xs ys (slopes-after f ms) (curvatures-after f Ms) 0 0) faults lines card
 
--- to a text: what is wrong in it, or what its knots are answered with
-unfoldable pub text-reply : (mends : Bool) → ToKnots → (text card : List ℕ) → Reply
-text-reply mends to-knots s card =
-    let a = sheet mends s in
-    let n = a .knots in
+-- to knots as they were gathered: what they are refused with, or what they are answered with
+unfoldable pub gathered-reply : ToKnots → Gathered → (lines card : List ℕ) → Reply
+gathered-reply to-knots g lines card =
+    let n = g .knots in
     let zeros = take n (replicate most (pos 0)) in
-    cond (eqb (a .wrong) 0) (to-knots (take n (a .minutes)) (take n (a .ordinates)) zeros zeros (a .lines) card) (refusing (wrong-line (a .wrong) (a .line) (blamed-word s (a .line))) card)
+    cond (eqb (g .number) 0) (to-knots (take n (g .minutes)) (take n (g .ordinates)) zeros zeros (take n (g .faults)) lines card) (refusing-knots (g .number) (g .place) lines card)
 
-abbrev pub reply : (text card : List ℕ) → Reply
+-- to a text and the logs that it names: what is wrong in it, or what its knots are answered with
+unfoldable pub text-reply : (mends : Bool) → ToKnots → (text logs card : List ℕ) → Reply
+text-reply mends to-knots s logs card =
+    let a = sheet mends s in
+    cond (eqb (a .wrong) 0) (gathered-reply to-knots (gathered a logs) (a .lines) card) (refusing (wrong-line (a .wrong) (a .line) (blamed-word s (a .line))) card)
+
+abbrev pub reply : (text logs card : List ℕ) → Reply
 reply = text-reply false fit-reply
 
 -- the reply was given: its words were put into a buffer, its card stands in another

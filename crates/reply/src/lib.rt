@@ -1,21 +1,89 @@
-// What the text of a sheet is answered with: the listing of its fit and the card's bytes, or a complaint; and a sheet with holes, mended before it is fitted. Apart from files.
+// What the text of a sheet, with the logs that it names, is answered with: the listing of its fit and the card's bytes, or a complaint; and a sheet with holes, mended before it is fitted. Apart from files.
+use gather::Gathered;
+use gather::Knot;
 use mend::Plan;
 use text::Sheet;
 ghost use mathlib.Core.Path.{_≡_};
-ghost use mathlib.Core.Bool.{true};
+ghost use mathlib.Core.Bool.{true, false, cond};
 ghost use mathlib.Core.List.{[]};
-ghost use Prim.Native.Nat.{_≤_};
+ghost use Prim.Native.Nat.{_≤_, _<_};
 ghost use lib.ListN.{length, getD};
 ghost use Rattle.knots.specs.Lent.{lent};
 ghost use Rattle.words.specs.Said.{wrong-line};
-ghost use Rattle.text.specs.Sheet.{sheet, blamed as blamed-word};
+ghost use Rattle.gather.specs.Gathered.{plain, logged};
+ghost use Rattle.text.specs.Sheet.{most, sheet as sheet-of, blamed as blamed-word};
+ghost use Rattle.reply.specs.Knots.{log-at, gathered};
 ghost use Rattle.reply.specs.Mending.{mend-reply, mending-reply, knots-plan, text-plan, Mends};
-ghost use Rattle.reply.specs.Reply.{of-a-knot, blamed, refusing, reply-of, fit-reply, reply, Answers};
+ghost use Rattle.reply.specs.Reply.{of-a-log, of-a-knot, blamed, refusing, refusing-knots, reply-of, fit-reply, reply, Answers};
 
-// The numbers whose place is a knot.
+// The logs of a sheet as they were read: for knot i, the byte at SLOT * i says how many bytes its log has, and they stand behind it; a log too long for its slot is told as 61 bytes, one more than a log may have.
+pub const SLOT: usize = 62;
+
+// Any list is answered: a log ends where the list does.
+fn log_at(logs: &[u8], i: usize) -> &[u8]
+    requires { ⌜ i < most ⌝ }
+    ensures { λ r. ⌜ now r ≡ log-at (now (logs .entry)) i ⌝ }
+{
+    let at = SLOT * i;
+    if logs.len() <= at {
+        return split::from(logs, logs.len());
+    }
+    let bytes = split::from(logs, at + 1);
+    let n = logs[at] as usize;
+    if bytes.len() <= n {
+        return bytes;
+    }
+    &bytes[..n]
+}
+
+// Knot i, by what the sheet has of it.
+fn knot_at(log: bool, minute: u16, ordinate: i16, logs: &[u8], i: usize) -> Knot
+    requires { ⌜ i < most ⌝ }
+    ensures { λ r. ⌜ r ≡ cond log (logged minute (log-at (now (logs .entry)) i)) (plain minute ordinate) ⌝ }
+{
+    if log {
+        return Knot::logged(minute, log_at(logs, i));
+    }
+    Knot::plain(minute, ordinate)
+}
+
+fn gathered(sheet: Sheet, logs: &[u8]) -> Gathered
+    requires { ⌜ sheet .knots ≤ most ⌝ }
+    ensures { λ r. ⌜ r ≡ gathered sheet (now (logs .entry)) ⌝ }
+{
+    let mut so_far = Gathered::refused(0, 0);
+    let mut i: usize = 0;
+    while i < sheet.knots {
+        let knot = knot_at(sheet.logs[i], sheet.minutes[i], sheet.ordinates[i], logs, i);
+        so_far = so_far.with_knot(knot);
+        i += 1;
+    }
+    so_far.close()
+}
+
+// What a log is refused with.
+fn of_a_log(number: u32) -> bool
+    ensures { λ r. ⌜ r ≡ of-a-log number ⌝ }
+{
+    if number == 12 {
+        return true;
+    }
+    if number == 13 {
+        return true;
+    }
+    if number == 16 {
+        return true;
+    }
+    number == 19 || number == 23
+}
+
+// The numbers whose place in a sheet is a knot.
 fn of_a_knot(number: u32) -> bool
     ensures { λ r. ⌜ r ≡ of-a-knot number ⌝ }
 {
+    if of_a_log(number) {
+        return true;
+    }
     if number == 17 {
         return true;
     }
@@ -56,6 +124,20 @@ impl Answered {
     pub const REFUSED: u8 = b'1';
 }
 
+// Knots that are refused; the card stays as it is.
+fn refuse_knots(number: u32, place: u32, lines: [u32; Sheet::MOST], to: &mut [u8]) -> Answered
+    requires { ⌜ 4096 ≤ length (now to) ⌝ }
+    ensures { λ r. ⌜ Answers (refusing-knots number place lines []) (now (to .entry)) (now (to .exit)) [] r ⌝ }
+{
+    let line = blamed(lines, number, place);
+    let length = words::refused_line(to, number, place, line);
+    Answered {
+        status: Answered::REFUSED,
+        length,
+        card: 0,
+    }
+}
+
 // Knots that were fitted, or refused with this number at this place: what is said of them, and the card with these codes of its ends.
 fn told(
     number: u32,
@@ -66,25 +148,20 @@ fn told(
     curvatures: &[i32],
     left: u16,
     right: u16,
+    faults: &[u8],
     lines: [u32; Sheet::MOST],
     to: &mut [u8],
     card: &mut [u8],
 ) -> Answered
     requires { ⌜ (length (now ordinates) ≡ length (now minutes)) × (length (now slopes) ≡ length (now minutes)) × (length (now curvatures) ≡ length (now minutes)) ⌝ }
     requires { ⌜ (length (now minutes) ≤ 65) × (4096 ≤ length (now to)) ⌝ }
-    ensures { λ r. ⌜ Answers (reply-of number place (lent (now (minutes .entry)) (now (ordinates .entry)) (now (slopes .entry)) (now (curvatures .entry)) left right) lines (now (card .entry))) (now (to .entry)) (now (to .exit)) (now (card .exit)) r ⌝ }
+    ensures { λ r. ⌜ Answers (reply-of number place (lent (now (minutes .entry)) (now (ordinates .entry)) (now (slopes .entry)) (now (curvatures .entry)) left right) (now (faults .entry)) lines (now (card .entry))) (now (to .entry)) (now (to .exit)) (now (card .exit)) r ⌝ }
 {
     if number != 0 {
-        let line = blamed(lines, number, place);
-        let length = words::refused_line(to, number, place, line);
-        return Answered {
-            status: Answered::REFUSED,
-            length,
-            card: 0,
-        };
+        return refuse_knots(number, place, lines, to);
     }
     let written = writer::write(minutes, ordinates, slopes, curvatures, left, right, card);
-    let length = listing::list(0, 0, minutes, ordinates, slopes, curvatures, to);
+    let length = listing::list(0, 0, minutes, ordinates, slopes, curvatures, faults, to);
     Answered {
         status: Answered::DONE,
         length,
@@ -97,13 +174,14 @@ fn fit_lists(
     ordinates: &[i16],
     slopes: &mut [i32],
     curvatures: &mut [i32],
+    faults: &[u8],
     lines: [u32; Sheet::MOST],
     to: &mut [u8],
     card: &mut [u8],
 ) -> Answered
     requires { ⌜ (length (now ordinates) ≡ length (now minutes)) × (length (now slopes) ≡ length (now minutes)) × (length (now curvatures) ≡ length (now minutes)) ⌝ }
     requires { ⌜ (length (now minutes) ≤ 65) × (4096 ≤ length (now to)) ⌝ }
-    ensures { λ r. ⌜ Answers (fit-reply (now (minutes .entry)) (now (ordinates .entry)) (now (slopes .entry)) (now (curvatures .entry)) lines (now (card .entry))) (now (to .entry)) (now (to .exit)) (now (card .exit)) r ⌝ }
+    ensures { λ r. ⌜ Answers (fit-reply (now (minutes .entry)) (now (ordinates .entry)) (now (slopes .entry)) (now (curvatures .entry)) (now (faults .entry)) lines (now (card .entry))) (now (to .entry)) (now (to .exit)) (now (card .exit)) r ⌝ }
 {
     let fitted = fit::fit(minutes, ordinates, slopes, curvatures);
     told(
@@ -115,6 +193,7 @@ fn fit_lists(
         curvatures,
         0,
         0,
+        faults,
         lines,
         to,
         card,
@@ -135,19 +214,23 @@ fn complain(text: &[u8], wrong: u32, line: u32, to: &mut [u8]) -> Answered
     }
 }
 
-// The knots of a sheet and their fit, between free ends.
-pub fn answer(text: &[u8], to: &mut [u8], card: &mut [u8]) -> Answered
-    requires { ⌜ 4096 ≤ length (now to) ⌝ }
-    ensures { λ r. ⌜ Answers (reply (now (text .entry)) (now (card .entry))) (now (to .entry)) (now (to .exit)) (now (card .exit)) r ⌝ }
+// The knots of a sheet, with the logs that it names, and their fit, between free ends. The sheet is the text's.
+pub fn answer(text: &[u8], sheet: Sheet, logs: &[u8], to: &mut [u8], card: &mut [u8]) -> Answered
+    requires { ⌜ (sheet ≡ sheet-of false (now text)) × (4096 ≤ length (now to)) ⌝ }
+    ensures { λ r. ⌜ Answers (reply (now (text .entry)) (now (logs .entry)) (now (card .entry))) (now (to .entry)) (now (to .exit)) (now (card .exit)) r ⌝ }
 {
-    let sheet = Sheet::read(text, false);
     if sheet.wrong != 0 {
         return complain(text, sheet.wrong, sheet.line, to);
     }
-    let n = sheet.knots;
-    let minutes = sheet.minutes;
-    let ordinates = sheet.ordinates;
     let lines = sheet.lines;
+    let all = gathered(sheet, logs);
+    if all.number != 0 {
+        return refuse_knots(all.number, all.place, lines, to);
+    }
+    let n = all.knots;
+    let minutes = all.minutes;
+    let ordinates = all.ordinates;
+    let faults = all.faults;
     let mut slopes = [0i32; Sheet::MOST];
     let mut curvatures = [0i32; Sheet::MOST];
     fit_lists(
@@ -155,6 +238,7 @@ pub fn answer(text: &[u8], to: &mut [u8], card: &mut [u8]) -> Answered
         &ordinates[..n],
         &mut slopes[..n],
         &mut curvatures[..n],
+        &faults[..n],
         lines,
         to,
         card,
@@ -178,6 +262,7 @@ fn mend_lists(
     ordinates: &mut [i16],
     slopes: &mut [i32],
     curvatures: &mut [i32],
+    faults: &[u8],
     lines: [u32; Sheet::MOST],
     to: &mut [u8],
     card: &mut [u8],
@@ -186,7 +271,7 @@ fn mend_lists(
     requires { ⌜ (length (now minutes) ≤ 65) × (4096 ≤ length (now to)) ⌝ }
     ensures { λ r. ⌜
         Mends
-        (mend-reply (now (minutes .entry)) (now (ordinates .entry)) (now (slopes .entry)) (now (curvatures .entry)) lines (now (card .entry)))
+        (mend-reply (now (minutes .entry)) (now (ordinates .entry)) (now (slopes .entry)) (now (curvatures .entry)) (now (faults .entry)) lines (now (card .entry)))
         (knots-plan (now (minutes .entry)) (now (ordinates .entry)) (now (slopes .entry)) (now (curvatures .entry)))
         lines (now (to .entry)) (now (to .exit)) (now (card .exit)) r ⌝ }
 {
@@ -200,6 +285,7 @@ fn mend_lists(
         curvatures,
         0,
         0,
+        faults,
         lines,
         to,
         card,
@@ -211,17 +297,13 @@ fn mend_lists(
     }
 }
 
-// The knots of a sheet, its holes filled, and their fit, between free ends.
-pub fn mend(text: &[u8], to: &mut [u8], card: &mut [u8]) -> Mending
-    requires { ⌜ 4096 ≤ length (now to) ⌝ }
+// The knots of a sheet, with the logs that it names, its holes filled, and their fit, between free ends. The sheet is the text's.
+pub fn mend(text: &[u8], sheet: Sheet, logs: &[u8], to: &mut [u8], card: &mut [u8]) -> Mending
+    requires { ⌜ (sheet ≡ sheet-of true (now text)) × (4096 ≤ length (now to)) ⌝ }
     ensures { λ r. ⌜
-        Mends (mending-reply (now (text .entry)) (now (card .entry))) (text-plan (now (text .entry))) (sheet true (now (text .entry)) .lines)
+        Mends (mending-reply (now (text .entry)) (now (logs .entry)) (now (card .entry))) (text-plan (now (text .entry)) (now (logs .entry))) (sheet .lines)
         (now (to .entry)) (now (to .exit)) (now (card .exit)) r ⌝ }
 {
-    let sheet = Sheet::read(text, true);
-    let n = sheet.knots;
-    let minutes = sheet.minutes;
-    let mut ordinates = sheet.ordinates;
     let lines = sheet.lines;
     if sheet.wrong != 0 {
         let answered = complain(text, sheet.wrong, sheet.line, to);
@@ -232,6 +314,20 @@ pub fn mend(text: &[u8], to: &mut [u8], card: &mut [u8]) -> Mending
             lines,
         };
     }
+    let all = gathered(sheet, logs);
+    if all.number != 0 {
+        let answered = refuse_knots(all.number, all.place, lines, to);
+        let plan = Plan::unchanged(all.number, all.place);
+        return Mending {
+            answered,
+            plan,
+            lines,
+        };
+    }
+    let n = all.knots;
+    let minutes = all.minutes;
+    let mut ordinates = all.ordinates;
+    let faults = all.faults;
     let mut slopes = [0i32; Sheet::MOST];
     let mut curvatures = [0i32; Sheet::MOST];
     mend_lists(
@@ -239,6 +335,7 @@ pub fn mend(text: &[u8], to: &mut [u8], card: &mut [u8]) -> Mending
         &mut ordinates[..n],
         &mut slopes[..n],
         &mut curvatures[..n],
+        &faults[..n],
         lines,
         to,
         card,

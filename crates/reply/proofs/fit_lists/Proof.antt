@@ -7,8 +7,8 @@ use Rattle.reply.proofs.fit_lists.Tie as tie
 
 returns : tie.Need-returns
 returns c =
-    let a = c .before .before .before .before .before .before .before .before .before .before .before .before .before .before .before .before .before .args in
-    answers-as (replies-fitted (c .before .before .before .before .before .before .before .before .before .before .before .fit .ensures) (now (a .minutes)) (now (a .ordinates)) (a .lines) (now (a .card))) (c .before .before .before .before .told .ensures)
+    let a = c .before .before .before .before .before .before .before .before .before .before .before .before .before .before .before .before .before .before .args in
+    answers-as (replies-fitted (c .before .before .before .before .before .before .before .before .before .before .before .fit .ensures) (now (a .minutes)) (now (a .ordinates)) (now (a .faults)) (a .lines) (now (a .card))) (c .before .before .before .before .told .ensures)
 
 pub fit-lists-spec : {M : Type 1} → statement M
 fit-lists-spec =

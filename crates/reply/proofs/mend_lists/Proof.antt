@@ -8,9 +8,9 @@ use Rattle.reply.proofs.mend_lists.Tie as tie
 
 returns : tie.Need-returns
 returns c =
-    let a = c .before .before .before .before .before .before .before .before .before .before .before .before .before .before .before .before .before .before .before .before .args in
+    let a = c .before .before .before .before .before .before .before .before .before .before .before .before .before .before .before .before .before .before .before .before .before .args in
     let p = c .before .before .before .before .before .before .before .before .before .before .before .before .before .mend .ensures in
-    record { answers = answers-as (replies-mended p (now (a .minutes)) (a .lines) (now (a .card))) (c .before .before .before .before .told .ensures); changes = p .plan; lines = refl }
+    record { answers = answers-as (replies-mended p (now (a .minutes)) (now (a .faults)) (a .lines) (now (a .card))) (c .before .before .before .before .told .ensures); changes = p .plan; lines = refl }
 
 pub mend-lists-spec : {M : Type 1} → statement M
 mend-lists-spec =

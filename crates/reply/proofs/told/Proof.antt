@@ -2,29 +2,28 @@
 use mathlib.Core.Path.{_≡_, refl, ap}
 use native.Mathlib.Omega.{arith}
 use borrow.Author.Needs.{needs}
-use Rattle.reply.specs.Reply.{refusing, listing-of}
-use Rattle.reply.proofs.Replies.{answers-as, replies-refused, replies-done}
+use Rattle.reply.specs.Reply.{listing-of}
+use Rattle.reply.proofs.Replies.{answers-as, refuses, replies-refused, replies-done}
 use Rattle.reply.proofs.told.Statement.{statement}
 use Rattle.reply.proofs.told.Tie as tie
 
 returns : tie.Need-returns
-unfolding refusing
 returns c =
-    answers-as (replies-refused _ _ _ _ _ (c .before .before .before .before .before .if1 .taken))
-    (record { said = rw (c .before .before .before .before .blamed .ensures) at (c .before .before .refused-line .ensures); status = refl; card = refl; size = refl })
+    let q = c .before .before .before .before in
+    answers-as (replies-refused _ _ _ _ _ _ (q .if1 .taken)) (refuses _ (c .before .before .refuse-knots .ensures) _)
 
 returns-2 : tie.Need-returns-2
 unfolding listing-of
 returns-2 c =
     let w = c .before .before .before .before .before .before .write .ensures in
-    let z : c .before .before .before .before .before .before .before .before .before .before .before .before .args .number ≡ 0 = omega (arith, c .before .before .before .before .before .before .before .before .if1 .left) in
-    answers-as (replies-done _ _ _ _ _ z) (record { said = c .before .before .list .ensures; status = refl; card = w .buffer; size = ap (λ r. r .bytes) (w .answer) })
+    let q = c .before .before .before .before .before .before .before .before in
+    let z : q .before .before .before .before .before .args .number ≡ 0 = omega (arith, q .if1 .left) in
+    answers-as (replies-done _ _ _ _ _ _ z) (record { said = c .before .before .list .ensures; status = refl; card = w .buffer; size = ap (λ r. r .bytes) (w .answer) })
 
 pub told-spec : {M : Type 1} → statement M
 told-spec =
     tie.close
     (tie.spec
-    (λ c κs. search needs)
     (λ c κs. search needs)
     (λ c. search needs)
     returns

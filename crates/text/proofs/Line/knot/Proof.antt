@@ -1,5 +1,4 @@
 -- `text::Line::knot` meets its contract, the minute first. Assumes nothing.
-use Prim.Native.Nat.{_≤_}
 use mathlib.Core.Path.{_≡_, sym, _∙_}
 use native.Mathlib.Omega.{arith}
 use denote.Ref.{now}
