@@ -1,4 +1,4 @@
--- Where a sheet's text is answered with the status '0', into a buffer with room for the largest card, a card is made; so too where it is mended.
+-- Where a sheet's text, with the logs that it names, is answered with the status '0', into a buffer with room for the largest card, a card is made; so too where it is mended.
 -- Assumes nothing.
 use Prim.Native.Nat.{ℕ, _≤_}
 use mathlib.Core.Path.{_≡_, refl, sym, ap, subst, _∙_}
@@ -35,14 +35,16 @@ use Rattle.mend.specs.Order.{mend}
 use Rattle.mend.specs.Promise.{ordinates-after}
 use Rattle.listing.specs.Text.{listing}
 use Rattle.text.specs.Sheet.{sheet, most}
-use Rattle.text.proofs.Room.{roomy}
-use Rattle.reply.specs.Reply.{Reply, refusing, listing-of, reply-of, ToKnots, fit-reply, text-reply, reply}
+use Rattle.text.proofs.Room.{roomy as sheet-roomy}
+use Rattle.gather.specs.declared.Gathered.{Gathered}
+use Rattle.reply.specs.Reply.{Reply, refusing, listing-of, reply-of, ToKnots, fit-reply, gathered-reply, text-reply, reply}
 use Rattle.reply.specs.Mending.{room as places, mend-reply, mending-reply}
+use Rattle.reply.proofs.Gathers.{roomy}
 use Rattle.kaihveto.specs.Types.{Minutes}
 use Rattle.demands.proofs.Numbered.{says}
 use Rattle.demands.proofs.FitToCard.{fitted-is-written, fitted-is-read}
-use Rattle.made_card.specs.Made.{sheet-fit, sheet-mend, made-bytes, Made}
-use Rattle.made_card.proofs.Typed.{minutes-front, minutes-typed}
+use Rattle.made_card.specs.Made.{sheet-knots, sheet-fit, sheet-mend, sheet-faults, made-bytes, Made}
+use Rattle.made_card.proofs.Typed.{minutes-front, minutes-typed, minutes-gathered}
 use Rattle.mending.proofs.Numbered.{mend-numbered}
 
 -- a refusal's status is '1', so that behind a '0' the test held
@@ -53,16 +55,16 @@ done-by false done words card e = absurd (omega arith)
 
 -- f is a fit of these knots behind further checks; the lists hold its card where it gives one
 module _ (f : Answer Card) (numbers : Never 0 f) (xs : List ℕ) (ys : List ℤ) (ms Ms : ℕ) (is-fit : (c : Card) → f ≡ given c → fit xs ys ms Ms ≡ given c)
-    (held : Answer Card → Card) (holds : held (given (card-of xs ys Free Free)) ≡ card-of xs ys Free Free) (lines buffer : List ℕ) where
+    (held : Answer Card → Card) (holds : held (given (card-of xs ys Free Free)) ≡ card-of xs ys Free Free) (faults lines buffer : List ℕ) where
   abbrev c : Card
   c = card-of xs ys Free Free
 
   abbrev its-reply : Answer Card → Reply
-  its-reply g = reply-of (number g) (place g) (held g) lines buffer
+  its-reply g = reply-of (number g) (place g) (held g) faults lines buffer
 
   -- the reply with this card, where the writer accepts it
   abbrev with-card : Reply
-  with-card = record { words = listing 0 0 xs ys (c .slopes) (c .curvatures); status = 48; card = bytes-of quintic-head c ++ drop (length (bytes-of quintic-head c)) buffer; size = size (knots c) }
+  with-card = record { words = listing 0 0 xs ys (c .slopes) (c .curvatures) faults; status = 48; card = bytes-of quintic-head c ++ drop (length (bytes-of quintic-head c)) buffer; size = size (knots c) }
 
   module _ (e : its-reply f .status ≡ 48) where
     -- 0 is no refusal's number
@@ -80,9 +82,9 @@ module _ (f : Answer Card) (numbers : Never 0 f) (xs : List ℕ) (ys : List ℤ)
 
       replies : its-reply f ≡ with-card
       unfolding reply-of number place listing-of card-of lent-after written
-      replies = ap its-reply gives ∙ ap (λ d. reply-of 0 0 d lines buffer) holds ∙ rw writes
+      replies = ap its-reply gives ∙ ap (λ d. reply-of 0 0 d faults lines buffer) holds ∙ rw writes
 
-      pub made-of : Minutes xs → Made f (its-reply f)
+      pub made-of : Minutes xs → Made f faults (its-reply f)
       unfolding card-of
       made-of typed =
           let returned = fitted-is-read xs ys Free Free ms Ms accepted (is-fit c gives) typed in
@@ -99,47 +101,58 @@ module _ (f : Answer Card) (numbers : Never 0 f) (xs : List ℕ) (ys : List ℤ)
 
 -- ---- of a text
 
-module _ (mends : Bool) (s buffer : List ℕ) where
+module _ (mends : Bool) (s logs buffer : List ℕ) where
+  abbrev g : Gathered
+  g = sheet-knots mends s logs
+
   abbrev n : ℕ
-  n = sheet mends s .knots
+  n = g .knots
 
   abbrev xs : List ℕ
-  xs = take n (sheet mends s .minutes)
+  xs = take n (g .minutes)
 
   abbrev ys : List ℤ
-  ys = take n (sheet mends s .ordinates)
+  ys = take n (g .ordinates)
 
   abbrev zeros : List ℤ
   zeros = take n (replicate most (pos 0))
 
+  abbrev faults : List ℕ
+  faults = sheet-faults mends s logs
+
+  abbrev on : List ℕ
+  on = sheet mends s .lines
+
   as-many : length zeros ≡ n
-  as-many = length-take-le n (replicate most (pos 0)) (roomy mends s .few)
+  as-many = length-take-le n (replicate most (pos 0)) (roomy (sheet mends s) logs (sheet-roomy mends s .few) .few)
 
   typed : Minutes xs
-  typed = minutes-front n (sheet mends s .minutes) (minutes-typed mends s)
+  typed = minutes-front n (g .minutes) (minutes-gathered (sheet mends s) (minutes-typed mends s) logs)
 
-  knots-answered : (to-knots : ToKnots) → text-reply mends to-knots s buffer .status ≡ 48 → text-reply mends to-knots s buffer ≡ to-knots xs ys zeros zeros (sheet mends s .lines) buffer
-  unfolding text-reply
-  knots-answered to-knots e = done-by (eqb (sheet mends s .wrong) 0) _ _ _ e .1
+  knots-answered : (to-knots : ToKnots) → text-reply mends to-knots s logs buffer .status ≡ 48 → text-reply mends to-knots s logs buffer ≡ to-knots xs ys zeros zeros faults on buffer
+  unfolding text-reply gathered-reply
+  knots-answered to-knots e =
+      let sound = done-by (eqb (sheet mends s .wrong) 0) (gathered-reply to-knots g on buffer) _ _ e .1 in
+      sound ∙ done-by (eqb (g .number) 0) _ _ _ (ap (λ r. r .status) (sym sound) ∙ e) .1
 
-  fit-made : size (quintic .most-knots) ≤ length buffer → text-reply mends fit-reply s buffer .status ≡ 48 → Made (fit xs ys n n) (text-reply mends fit-reply s buffer)
+  fit-made : size (quintic .most-knots) ≤ length buffer → text-reply mends fit-reply s logs buffer .status ≡ 48 → Made (fit xs ys n n) faults (text-reply mends fit-reply s logs buffer)
   unfolding card-of
   fit-made room e =
       let k = length zeros in
       let is = knots-answered fit-reply e in
-      let m = made-of (fit xs ys k k) (fit-numbered xs ys Free Free k k given-never) xs ys k k (λ c g. g) (λ g. lent xs ys (slopes-after g zeros) (curvatures-after g zeros) 0 0) refl (sheet mends s .lines) buffer (ap (λ r. r .status) (sym is) ∙ e) room typed in
-      subst (λ k. Made (fit xs ys k k) (text-reply mends fit-reply s buffer)) as-many (subst (λ r. Made (fit xs ys k k) r) (sym is) m)
+      let m = made-of (fit xs ys k k) (fit-numbered xs ys Free Free k k given-never) xs ys k k (λ c g. g) (λ g. lent xs ys (slopes-after g zeros) (curvatures-after g zeros) 0 0) refl faults on buffer (ap (λ r. r .status) (sym is) ∙ e) room typed in
+      subst (λ k. Made (fit xs ys k k) faults (text-reply mends fit-reply s logs buffer)) as-many (subst (λ r. Made (fit xs ys k k) faults r) (sym is) m)
 
-  mend-made : size (quintic .most-knots) ≤ length buffer → text-reply mends mend-reply s buffer .status ≡ 48 → Made (mend xs ys n n places) (text-reply mends mend-reply s buffer)
+  mend-made : size (quintic .most-knots) ≤ length buffer → text-reply mends mend-reply s logs buffer .status ≡ 48 → Made (mend xs ys n n places) faults (text-reply mends mend-reply s logs buffer)
   unfolding card-of mend
   mend-made room e =
       let k = length zeros in
       let is = knots-answered mend-reply e in
-      let m = made-of (mend xs ys k k places) (mend-numbered xs ys k k places) xs (mended xs ys) k k (λ c g. next-accepts _ _ g) (λ g. lent xs (ordinates-after g ys) (slopes-after g zeros) (curvatures-after g zeros) 0 0) refl (sheet mends s .lines) buffer (ap (λ r. r .status) (sym is) ∙ e) room typed in
-      subst (λ k. Made (mend xs ys k k places) (text-reply mends mend-reply s buffer)) as-many (subst (λ r. Made (mend xs ys k k places) r) (sym is) m)
+      let m = made-of (mend xs ys k k places) (mend-numbered xs ys k k places) xs (mended xs ys) k k (λ c g. next-accepts _ _ g) (λ g. lent xs (ordinates-after g ys) (slopes-after g zeros) (curvatures-after g zeros) 0 0) refl faults on buffer (ap (λ r. r .status) (sym is) ∙ e) room typed in
+      subst (λ k. Made (mend xs ys k k places) faults (text-reply mends mend-reply s logs buffer)) as-many (subst (λ r. Made (mend xs ys k k places) faults r) (sym is) m)
 
-pub made-card : (s buffer : List ℕ) → size (quintic .most-knots) ≤ length buffer → reply s buffer .status ≡ 48 → Made (sheet-fit s) (reply s buffer)
-made-card s buffer = fit-made false s buffer
+pub made-card : (s logs buffer : List ℕ) → size (quintic .most-knots) ≤ length buffer → reply s logs buffer .status ≡ 48 → Made (sheet-fit s logs) (sheet-faults false s logs) (reply s logs buffer)
+made-card s logs buffer = fit-made false s logs buffer
 
-pub mended-card : (s buffer : List ℕ) → size (quintic .most-knots) ≤ length buffer → mending-reply s buffer .status ≡ 48 → Made (sheet-mend s) (mending-reply s buffer)
-mended-card s buffer = mend-made true s buffer
+pub mended-card : (s logs buffer : List ℕ) → size (quintic .most-knots) ≤ length buffer → mending-reply s logs buffer .status ≡ 48 → Made (sheet-mend s logs) (sheet-faults true s logs) (mending-reply s logs buffer)
+mended-card s logs buffer = mend-made true s logs buffer

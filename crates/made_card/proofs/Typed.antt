@@ -1,25 +1,32 @@
--- The minutes of a sheet of text are numbers of two bytes, in every place of its array.
+-- The minutes of a sheet of text are numbers of two bytes, in every place of its array, and those of its knots with its logs too.
 -- Assumes nothing.
 use Prim.Native.Nat.{ℕ, zero, suc, _^_, _<_}
 use mathlib.Core.Path.{_≡_, refl}
 use mathlib.Core.Bool.{Bool, true, false, cond}
-use mathlib.Core.List.{List, [], _∷_}
+use mathlib.Core.List.{List, [], _∷_, map}
 use native.Mathlib.Omega.{arith}
-use lib.Dec.{ltb}
-use lib.IntN.{ℤ}
-use lib.ListN.{length, take, set, replicate}
+use lib.Dec.{ltb, eqb}
+use lib.IntN.{ℤ, pos}
+use lib.ListN.{length, take, getD, set, replicate}
+use lib.Seq.{sets}
+use Rattle.answer.specs.Answer.{Answer, refused as refuses, given, Verdict, _then_}
+use Rattle.curve.specs.Card.{latest}
+use Rattle.log.proofs.Fits.{fits}
+use Rattle.gather.specs.declared.Gathered.{Gathered}
+use Rattle.gather.specs.Gathered.{plain, logged, logs, filled, gathering, settled}
 use Rattle.split.specs.Parts.{lines, bare, words}
-use Rattle.numeral.specs.Number.{natural, ordinate}
+use Rattle.numeral.specs.Number.{starts, natural, ordinate}
 use Rattle.numeral.specs.declared.Number.{Number}
 use Rattle.numeral.specs.declared.Number.the-variants.{Whole, Bad}
 use Rattle.numeral.specs.declared.Ordinate.{Ordinate}
 use Rattle.numeral.specs.declared.Ordinate.the-variants.{Given, Hole as Missing, Wrong}
 use Rattle.numeral.proofs.Numbers.{natural-upto}
 use Rattle.holes.specs.Hole.{hole}
-use Rattle.text.specs.Sheet.{too-long, knot-by, line-by, is-hole, line, most, refused, with-knot, taken, goes-on, read, longest, sheet}
+use Rattle.text.specs.Sheet.{too-long, nameless, at-sign, with-ordinate, behind, knot-by, knot, line-by, is-hole, line, most, refused, with-knot, taken, goes-on, read, longest, sheet}
 use Rattle.text.specs.declared.Line.{Line}
-use Rattle.text.specs.declared.Line.the-variants.{Empty, Knot, Hole, Refused}
+use Rattle.text.specs.declared.Line.the-variants.{Empty, Knot, Hole, Log, Refused}
 use Rattle.text.specs.declared.Sheet.{Sheet}
+use Rattle.reply.specs.Knots.{log-at, knot-at, knots-from, gathered}
 use Rattle.kaihveto.specs.Types.{Minutes}
 
 -- ---- lists of minutes
@@ -52,16 +59,30 @@ Small Empty = Unit {0}
 Small (Refused wrong) = Unit {0}
 Small (Knot x y) = x < 2 ^ 16
 Small (Hole x) = x < 2 ^ 16
+Small (Log x) = x < 2 ^ 16
 
-small-knot : (x : List ℕ) (y : Ordinate) → Small (knot-by (natural 65535 x) y)
-unfolding knot-by
-small-knot x y = go (natural 65535 x) y refl
+small-with-ordinate : (n : ℕ) → n < 2 ^ 16 → (y : Ordinate) → Small (with-ordinate n y)
+unfolding with-ordinate
+small-with-ordinate n h (Wrong wrong) = tt
+small-with-ordinate n h Missing = h
+small-with-ordinate n h (Given y) = h
+
+small-behind : (n : ℕ) → n < 2 ^ 16 → (w : List ℕ) → Small (behind n w)
+unfolding behind
+small-behind n h w = go (starts at-sign w) (eqb (length w) 1)
   where
-    go : (n : Number) (y : Ordinate) → natural 65535 x ≡ n → Small (knot-by n y)
-    go (Bad wrong) y e = tt
-    go (Whole n) (Wrong wrong) e = tt
-    go (Whole n) Missing e = omega (arith, natural-upto 65535 x e)
-    go (Whole n) (Given y) e = omega (arith, natural-upto 65535 x e)
+    go : (named bare : Bool) → Small (cond named (cond bare (Refused nameless) (Log n)) (with-ordinate n (ordinate w)))
+    go true true = tt
+    go true false = h
+    go false bare = small-with-ordinate n h (ordinate w)
+
+small-knot : (x w : List ℕ) → Small (knot x w)
+unfolding knot-by
+small-knot x w = go (natural latest x) refl
+  where
+    go : (n : Number) → natural latest x ≡ n → Small (knot-by n w)
+    go (Bad wrong) e = tt
+    go (Whole n) e = small-behind n (omega (arith, natural-upto latest x e)) w
 
 small-line : (l : List ℕ) → Small (line l)
 unfolding line line-by
@@ -70,8 +91,8 @@ small-line l = go (words (bare l))
     go : (ws : List (List ℕ)) → Small (line-by ws)
     go [] = tt
     go (x ∷ []) = tt
-    go (x ∷ y ∷ []) = small-knot x (ordinate y)
-    go (x ∷ y ∷ z ∷ ws) = tt
+    go (x ∷ w ∷ []) = small-knot x w
+    go (x ∷ w ∷ v ∷ ws) = tt
 
 -- ---- a sheet's minutes
 
@@ -80,20 +101,21 @@ unfolding refused
 minutes-refused wrong n = minutes-zeros most
 
 module _ (a : Sheet) (m : Minutes (a .minutes)) (n x : ℕ) (h : x < 2 ^ 16) where
-  minutes-with-knot : (y : ℤ) → Minutes (with-knot a n x y .minutes)
+  minutes-with-knot : (y : ℤ) (log : Bool) → Minutes (with-knot a n x y log .minutes)
   unfolding with-knot
-  minutes-with-knot y = minutes-set (a .minutes) (a .knots) x h m
+  minutes-with-knot y log = minutes-set (a .minutes) (a .knots) x h m
 
 module _ (mends : Bool) where
   minutes-taken : (a : Sheet) → Minutes (a .minutes) → (n : ℕ) (l : Line) → Small l → Minutes (taken mends a n l .minutes)
   unfolding taken
   minutes-taken a m n Empty h = m
   minutes-taken a m n (Refused wrong) h = minutes-refused wrong n
-  minutes-taken a m n (Knot x y) h = minutes-with-knot a m n x h y
+  minutes-taken a m n (Knot x y) h = minutes-with-knot a m n x h y false
+  minutes-taken a m n (Log x) h = minutes-with-knot a m n x h (pos 0) true
   minutes-taken a m n (Hole x) h = go mends
     where
-      go : (b : Bool) → Minutes (cond b (with-knot a n x hole) (refused is-hole n) .minutes)
-      go true = minutes-with-knot a m n x h hole
+      go : (b : Bool) → Minutes (cond b (with-knot a n x hole false) (refused is-hole n) .minutes)
+      go true = minutes-with-knot a m n x h hole false
       go false = minutes-refused is-hole n
 
   minutes-read : (a : Sheet) → Minutes (a .minutes) → (n : ℕ) (ls : List (List ℕ)) → Minutes (read mends a n ls .minutes)
@@ -112,3 +134,28 @@ module _ (mends : Bool) where
       go : (b : Bool) → Minutes (cond b (refused too-long 0) (read mends (refused 0 0) 1 (lines s)) .minutes)
       go true = minutes-refused too-long 0
       go false = minutes-read (refused 0 0) (minutes-refused 0 0) 1 (lines s)
+
+-- ---- with its logs
+
+module _ (a : Sheet) (m : Minutes (a .minutes)) (ls : List ℕ) where
+  small-at : (i : ℕ) → knot-at a ls i .minute < 2 ^ 16
+  unfolding Minutes knot-at plain logged
+  small-at i = go (getD (a .logs) i false)
+    where
+      go : (log : Bool) → cond log (logged (getD (a .minutes) i 0) (log-at ls i)) (plain (getD (a .minutes) i 0) (getD (a .ordinates) i (pos 0))) .minute < 2 ^ 16
+      go true = omega (arith, fits (getD (a .minutes) i 0) (log-at ls i) .minute)
+      go false = m i
+
+  minutes-sets : (l : List ℕ) (j : ℕ) → Minutes l → (i n : ℕ) → Minutes (sets l j (map (λ k. k .minute) (knots-from a ls i n)))
+  unfolding knots-from
+  minutes-sets l j h i zero = h
+  minutes-sets l j h i (suc n) = minutes-sets (set l j (knot-at a ls i .minute)) (suc j) (minutes-set l j (knot-at a ls i .minute) (small-at i) h) (suc i) n
+
+  minutes-then : (v : Verdict) (b : Answer Gathered) → Minutes (settled b .minutes) → Minutes (settled (v then b) .minutes)
+  unfolding settled _then_
+  minutes-then (refuses number place) b h = minutes-zeros most
+  minutes-then (given u) b h = h
+
+  pub minutes-gathered : Minutes (gathered a ls .minutes)
+  unfolding settled gathering filled
+  minutes-gathered = minutes-then _ _ (minutes-then (logs 0 (knots-from a ls 0 (a .knots))) (given (filled (knots-from a ls 0 (a .knots)))) (minutes-sets (replicate most 0) 0 (minutes-zeros most) 0 (a .knots)))

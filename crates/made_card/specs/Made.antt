@@ -1,8 +1,8 @@
--- The card that a sheet's text is answered with: the fit of the sheet's knots, or of the mended ones, in bytes that the card's test accepts.
+-- The card that a sheet's text, with the logs that it names, is answered with: the fit of the sheet's knots, or of the mended ones, in bytes that the card's test accepts.
 -- Assumes nothing.
 use Prim.Native.Nat.{ℕ}
 use mathlib.Core.Path.{_≡_}
-use mathlib.Core.Bool.{true, false}
+use mathlib.Core.Bool.{Bool, true, false}
 use mathlib.Core.List.{List}
 use lib.ListN.{take}
 use Rattle.answer.specs.Answer.{Answer, given, accepted}
@@ -15,23 +15,33 @@ use Rattle.fit.specs.Fit.{fit}
 use Rattle.mend.specs.Order.{mend}
 use Rattle.listing.specs.Text.{listing}
 use Rattle.text.specs.Sheet.{sheet}
+use Rattle.gather.specs.declared.Gathered.{Gathered}
+use Rattle.reply.specs.Knots.{gathered}
 use Rattle.reply.specs.Reply.{Reply}
 use Rattle.reply.specs.Mending.{room}
 
--- the fit of a sheet's knots between free ends, into as many places as there are knots
-abbrev pub sheet-fit : List ℕ → Answer Card
-sheet-fit s = let a = sheet false s in let n = a .knots in fit (take n (a .minutes)) (take n (a .ordinates)) n n
+-- the knots of a sheet with its logs, each log at its middle
+abbrev pub sheet-knots : (mends : Bool) → (text logs : List ℕ) → Gathered
+sheet-knots mends s logs = gathered (sheet mends s) logs
+
+-- their fit between free ends, into as many places as there are knots
+abbrev pub sheet-fit : (text logs : List ℕ) → Answer Card
+sheet-fit s logs = let g = sheet-knots false s logs in let n = g .knots in fit (take n (g .minutes)) (take n (g .ordinates)) n n
 
 -- the same of a sheet with holes, mended
-abbrev pub sheet-mend : List ℕ → Answer Card
-sheet-mend s = let a = sheet true s in let n = a .knots in mend (take n (a .minutes)) (take n (a .ordinates)) n n room
+abbrev pub sheet-mend : (text logs : List ℕ) → Answer Card
+sheet-mend s logs = let g = sheet-knots true s logs in let n = g .knots in mend (take n (g .minutes)) (take n (g .ordinates)) n n room
+
+-- the faults of each knot's log
+abbrev pub sheet-faults : (mends : Bool) → (text logs : List ℕ) → List ℕ
+sheet-faults mends s logs = let g = sheet-knots mends s logs in take (g .knots) (g .faults)
 
 -- the bytes of the card: as many as are told, from the front of the buffer
 abbrev pub made-bytes : Reply → List ℕ
 made-bytes r = take (r .size) (r .card)
 
--- a reply with the card that a fit gives
-pub record Made (f : Answer Card) (r : Reply) : Type 0 where
+-- a reply with the card that a fit gives, of knots with these faults
+pub record Made (f : Answer Card) (faults : List ℕ) (r : Reply) : Type 0 where
   -- the card that was made
   pub made : Card
   -- it is the one that the fit gives
@@ -44,5 +54,5 @@ pub record Made (f : Answer Card) (r : Reply) : Type 0 where
   pub tested : own (made-bytes r) ≡ accepted
   -- they hold the card
   pub held : card-of (made-bytes r) ≡ made
-  -- what is said is the listing of the card
-  pub said : r .words ≡ listing 0 0 (made .minutes) (made .ordinates) (made .slopes) (made .curvatures)
+  -- what is said is the listing of the card and of the faults
+  pub said : r .words ≡ listing 0 0 (made .minutes) (made .ordinates) (made .slopes) (made .curvatures) faults
