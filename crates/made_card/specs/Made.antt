@@ -4,7 +4,8 @@ use Prim.Native.Nat.{ℕ}
 use mathlib.Core.Path.{_≡_}
 use mathlib.Core.Bool.{Bool, true, false}
 use mathlib.Core.List.{List}
-use lib.ListN.{take}
+use lib.IntN.{pos}
+use lib.ListN.{take, getD, replicate}
 use Rattle.answer.specs.Answer.{Answer, given, accepted}
 use Rattle.curve.specs.Card.{Card, knots}
 use Rattle.curve.specs.Steps.{size}
@@ -13,11 +14,12 @@ use Rattle.card_bytes.specs.Held.{card-of}
 use Rattle.card.specs.Answers.{own}
 use Rattle.fit.specs.Fit.{fit}
 use Rattle.mend.specs.Order.{mend}
-use Rattle.listing.specs.Text.{listing}
-use Rattle.text.specs.Sheet.{sheet}
+use Rattle.listing.specs.Text.{no-log, listing}
+use Rattle.text.specs.declared.Sheet.{Sheet}
+use Rattle.text.specs.Sheet.{most, sheet}
 use Rattle.gather.specs.declared.Gathered.{Gathered}
 use Rattle.reply.specs.Knots.{gathered}
-use Rattle.reply.specs.Reply.{Reply}
+use Rattle.reply.specs.Reply.{Reply, ToKnots}
 use Rattle.reply.specs.Mending.{room}
 
 -- the knots of a sheet with its logs, each log at its middle
@@ -39,6 +41,17 @@ sheet-faults mends s logs = let g = sheet-knots mends s logs in take (g .knots) 
 -- the bytes of the card: as many as are told, from the front of the buffer
 abbrev pub made-bytes : Reply → List ℕ
 made-bytes r = take (r .size) (r .card)
+
+-- no knot of a sheet is a log's
+abbrev pub Logless : Sheet → Type 0
+Logless a = (i : ℕ) → getD (a .logs) i false ≡ false
+
+-- the reply to the knots as they are written down in a sheet, without a log
+abbrev pub written-reply : ToKnots → Sheet → (card : List ℕ) → Reply
+written-reply to-knots a card =
+    let n = a .knots in
+    let zeros = take n (replicate most (pos 0)) in
+    to-knots (take n (a .minutes)) (take n (a .ordinates)) zeros zeros (replicate n no-log) (a .lines) card
 
 -- a reply with the card that a fit gives, of knots with these faults
 pub record Made (f : Answer Card) (faults : List ℕ) (r : Reply) : Type 0 where

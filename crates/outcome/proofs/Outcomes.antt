@@ -126,10 +126,12 @@ use Rattle.split.proofs.until.Reads as split-until
 use Rattle.split.proofs.from.Reads as split-from
 use Rattle.split.proofs.past.Reads as split-past
 use Rattle.split.proofs.line_at.Reads as line-at
+use Rattle.numeral.proofs.starts.Reads as starts
 use Rattle.numeral.proofs.plain.Reads as plain
 use Rattle.numeral.proofs.Number.natural.Reads as natural
 use Rattle.numeral.proofs.Ordinate.of.Reads as ordinate-of
 use Rattle.text.proofs.blamed.Reads as blamed
+use Rattle.text.proofs.log_name.Reads as log-name
 use Rattle.text.proofs.Sheet.read.Reads as text-read
 use Rattle.words.proofs.put_sentence.Reads as put-sentence
 use Rattle.words.proofs.refused_line.Reads as refusal-said
@@ -516,11 +518,11 @@ listed = putting _ _ _ _
 pub split : Once split-stop.Post × Leaves split-until.Post (λ x s. now x) × Leaves split-from.Post (λ x s. now x) × Leaves split-past.Post (λ x s. now x) × Leaves line-at.Post (λ x s. now x)
 split = (equation _ _, equation _ _, equation _ _, equation _ _, equation _ _)
 
-pub numeral : Once plain.Post × Once natural.Post × Once ordinate-of.Post
-numeral = (equation _ _, equation _ _, equation _ _)
+pub numeral : Once starts.Post × Once plain.Post × Once natural.Post × Once ordinate-of.Post
+numeral = (equation _ _, equation _ _, equation _ _, equation _ _)
 
-pub text : Leaves blamed.Post (λ x s. now x) × Once text-read.Post
-text = (equation _ _, equation _ _)
+pub text : Leaves blamed.Post (λ x s. now x) × Leaves log-name.Post (λ x s. now x) × Once text-read.Post
+text = (equation _ _, equation _ _, equation _ _)
 
 -- the buffer is the first parameter
 pub sentence-put : Once put-sentence.Post × Lent put-sentence.Post (λ s. now (s .0))
@@ -538,11 +540,11 @@ mended-told = putting _ _ _ _
 pub line-told : Once reply-line.Post
 line-told = equation _ _
 
--- the buffers for what is said and for the card are the second and the third
-pub reply : Once reply-answer.Post × Lent reply-answer.Post (λ s. now (s .1 .0)) × Lent reply-answer.Post (λ s. now (s .1 .1 .0))
+-- the buffers for what is said and for the card are the fourth and the fifth
+pub reply : Once reply-answer.Post × Lent reply-answer.Post (λ s. now (s .1 .1 .1 .0)) × Lent reply-answer.Post (λ s. now (s .1 .1 .1 .1 .0))
 reply = answering _ _ _ _
 
-pub reply-mended : Once reply-mend.Post × Lent reply-mend.Post (λ s. now (s .1 .0)) × Lent reply-mend.Post (λ s. now (s .1 .1 .0))
+pub reply-mended : Once reply-mend.Post × Lent reply-mend.Post (λ s. now (s .1 .1 .1 .0)) × Lent reply-mend.Post (λ s. now (s .1 .1 .1 .1 .0))
 reply-mended = mending-text _ _ _ _ _ _
 
 -- the text is the second

@@ -53,7 +53,7 @@ unfolding settled _then_
 roomy-then (refused number place) a r = record { few = omega arith; minutes = refl; ordinates = refl; faults = refl }
 roomy-then (given u) a r = r
 
-so-many-from : (a : Sheet) (ls : List ℕ) (i n : ℕ) → length (knots-from a ls i n) ≡ n
+pub so-many-from : (a : Sheet) (ls : List ℕ) (i n : ℕ) → length (knots-from a ls i n) ≡ n
 unfolding knots-from
 so-many-from a ls i zero = refl
 so-many-from a ls i (suc n) = ap suc (so-many-from a ls (suc i) n)
