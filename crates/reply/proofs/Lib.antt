@@ -3,3 +3,4 @@ pub mod Slots
 pub mod Gathers
 pub mod Lists
 pub mod Places
+pub mod Examples
