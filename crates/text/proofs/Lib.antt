@@ -4,4 +4,5 @@ pub mod Names
 pub mod Readings
 pub mod Room
 pub mod Written
+pub mod Logs
 pub mod Examples

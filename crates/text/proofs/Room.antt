@@ -24,7 +24,7 @@ pub record Roomy (a : Sheet) : Type 0 where
   pub lines : length (a .lines) ≡ most
   pub logs : length (a .logs) ≡ most
 
-roomy-refused : (wrong n : ℕ) → Roomy (refused wrong n)
+pub roomy-refused : (wrong n : ℕ) → Roomy (refused wrong n)
 unfolding refused
 roomy-refused wrong n = record { few = omega arith; minutes = refl; ordinates = refl; lines = refl; logs = refl }
 
@@ -39,11 +39,11 @@ roomy-with-knot {a} r h n x y log =
       logs = length-set (a .logs) (a .knots) log ∙ r .logs;
     }
 
-has-room : (a : Sheet) → goes-on a ≡ true → a .knots < most
+pub has-room : (a : Sheet) → goes-on a ≡ true → a .knots < most
 unfolding goes-on
 has-room a e = ltb-true (a .knots) most (second (eqb (a .wrong) 0) _ e)
 
-roomy-taken : (mends : Bool) {a : Sheet} → Roomy a → a .knots < most → (n : ℕ) (l : Line) → Roomy (taken mends a n l)
+pub roomy-taken : (mends : Bool) {a : Sheet} → Roomy a → a .knots < most → (n : ℕ) (l : Line) → Roomy (taken mends a n l)
 unfolding taken
 roomy-taken mends r h n Empty = r
 roomy-taken mends r h n (Refused wrong) = roomy-refused wrong n

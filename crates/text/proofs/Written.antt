@@ -130,23 +130,20 @@ two-of-knot x w = go (natural latest x) refl
     go (Bad wrong) d = tt
     go (Whole n) d = rw (one-spelling latest x (lit< tt) d) (two-behind n w)
 
-two-words : (l : List ℕ) → Two (line l) (words (bare l))
-unfolding line line-by
-two-words l = go (words (bare l))
-  where
-    go : (ws : List (List ℕ)) → Two (line-by ws) ws
-    go [] = tt
-    go (x ∷ []) = tt
-    go (x ∷ w ∷ []) = two-of-knot x w
-    go (x ∷ w ∷ v ∷ ws) = tt
+two-words : (ws : List (List ℕ)) → Two (line-by ws) ws
+unfolding line-by
+two-words [] = tt
+two-words (x ∷ []) = tt
+two-words (x ∷ w ∷ []) = two-of-knot x w
+two-words (x ∷ w ∷ v ∷ ws) = tt
 
-module _ (l : List ℕ) {n : ℕ} where
-  pub knot-is-two-words : {z : ℤ} → line l ≡ Knot n z → words (bare l) ≡ decimal n ∷ signed z ∷ []
-  knot-is-two-words e = rw e at (two-words l)
+module _ (ws : List (List ℕ)) {n : ℕ} where
+  pub knot-is-two-words : {z : ℤ} → line-by ws ≡ Knot n z → ws ≡ decimal n ∷ signed z ∷ []
+  knot-is-two-words e = rw e at (two-words ws)
 
-  pub hole-is-two-words : line l ≡ Hole n → words (bare l) ≡ decimal n ∷ (minus ∷ []) ∷ []
-  hole-is-two-words e = rw e at (two-words l)
+  pub hole-is-two-words : line-by ws ≡ Hole n → ws ≡ decimal n ∷ (minus ∷ []) ∷ []
+  hole-is-two-words e = rw e at (two-words ws)
 
   -- the second is a '@' and the name, which has a byte
-  pub log-is-two-words : line l ≡ Log n → (words (bare l) ≡ decimal n ∷ (at-sign ∷ named-by (words (bare l))) ∷ []) × (0 < length (named-by (words (bare l))))
-  log-is-two-words e = rw e at (two-words l)
+  pub log-is-two-words : line-by ws ≡ Log n → (ws ≡ decimal n ∷ (at-sign ∷ named-by ws) ∷ []) × (0 < length (named-by ws))
+  log-is-two-words e = rw e at (two-words ws)
