@@ -12,7 +12,7 @@ use Rattle.curve.specs.Card.{latest}
 use Rattle.curve.specs.Log.{longest, largest-good, fault}
 use Rattle.words.specs.declared.Table.the-variants.{Refusals, Remedies, Wrongs}
 use Rattle.words.specs.Sentences.{sentence}
-use Rattle.words.specs.Said.{at-line, at-place, refused-words, refused-line, shown, wrong-line, mended-line}
+use Rattle.words.specs.Said.{at-line, counts, at-place, refused-words, refused-line, shown, wrong-line, mended-line}
 
 abbrev said : String → List ℕ
 said words = spelled words ++ (10 ∷ [])
@@ -24,15 +24,23 @@ pub refusals :
     × (refused-line 17 0 2 ≡ said ":2: knot 0: refused 17: hole has no sound knot on one side") × (refused-line 18 0 0 ≡ said ": refused 18: list of changes has fewer places than there are holes")
     × (refused-line 20 0 0 ≡ said ": refused 20: room is not in the book") × (refused-line 21 0 0 ≡ said ": refused 21: book would be over 16384 bytes, or over the lent buffer")
     × (refused-line 22 16 0 ≡ said ": byte 16: refused 22: room number is not above the one before")
-unfolding spelled digits sentence at-line at-place refused-words refused-line
+unfolding spelled digits sentence at-line counts at-place refused-words refused-line
 refusals = (refl, refl, refl, refl, refl, refl, refl, refl, refl)
+
+-- a log by itself, and on a line of a sheet
+pub logs :
+    (refused-line 12 3 0 ≡ said ": byte 3: refused 12: log byte is from 201 to 254") × (refused-line 12 2 4 ≡ said ":4: knot 2: refused 12: log byte is from 201 to 254")
+    × (refused-line 23 0 0 ≡ said ": refused 23: log has good bytes, but fewer than half") × (refused-line 23 2 4 ≡ said ":4: knot 2: refused 23: log has good bytes, but fewer than half")
+unfolding spelled digits sentence at-line counts at-place refused-words refused-line
+logs = (refl, refl, refl, refl)
 
 pub wrongs :
     (wrong-line 1 4 (spelled "5.5") ≡ said ":4: '5.5' is not a whole number; hundredths are whole: write 550 for 5.5 %")
     × (wrong-line 1 4 (195 ∷ 164 ∷ []) ≡ said ":4: this word is not a whole number; hundredths are whole: write 550 for 5.5 %")
     × (wrong-line 6 0 [] ≡ said ": the text is longer than 65535 bytes: no sheet is") × (wrong-line 7 4 (spelled "-") ≡ said ":4: '-' is a hole: kaihveto mend fills it")
+    × (wrong-line 8 4 (spelled "@") ≡ said ":4: '@' asks for the name of a log's file: write MINUTE @FILE")
 unfolding spelled digits marks stop plain sentence at-line shown wrong-line
-wrongs = (refl, refl, refl, refl)
+wrongs = (refl, refl, refl, refl, refl)
 
 pub mendings : (mended-line 4 1 (pos 480) ≡ said ":4: knot 1: hole, now 480") × (mended-line 12 10 (negsuc 4) ≡ said ":12: knot 10: hole, now -5")
 unfolding spelled digits signed field at-line mended-line

@@ -17,7 +17,7 @@ use Rattle.split.specs.declared.Mark.the-variants.{Hidden}
 use Rattle.numeral.specs.Number.{plain}
 use Rattle.words.specs.declared.Table.the-variants.{Places}
 use Rattle.words.specs.Sentences.{longest, sentence}
-use Rattle.words.specs.Said.{at-line, at-place, quoted, shown}
+use Rattle.words.specs.Said.{at-line, counts, at-place, quoted, shown}
 use Rattle.words.proofs.Rows.{sentence-short}
 
 -- ---- the line
@@ -41,26 +41,43 @@ module _ (line : ℕ) where
 
 -- ---- the place
 
-module _ (number place : ℕ) where
-  pub no-place : length (sentence Places number) ≡ 0 → at-place number place ≡ []
-  unfolding at-place
-  no-place e = rw (eq-eqb (length (sentence Places number)) 0 e)
+module _ (number line : ℕ) where
+  pub counts-by-number : line ≡ 0 → counts number line ≡ sentence Places number
+  unfolding counts
+  counts-by-number e = rw (eq-eqb line 0 e)
 
-  pub a-place : (length (sentence Places number) ≡ 0 → ⊥) → at-place number place ≡ sentence Places number ++ worded " " place ++ spelled ": "
-  unfolding at-place
-  a-place e = rw (ne-eqb (length (sentence Places number)) 0 e)
+  pub counts-knots : (line ≡ 0 → ⊥) → counts number line ≡ spelled "knot"
+  unfolding counts
+  counts-knots e = rw (ne-eqb line 0 e)
 
-  length-behind : length (sentence Places number ++ worded " " place ++ spelled ": ") ≤ longest + 23
+  pub length-counts : length (counts number line) ≤ longest
+  unfolding counts spelled
+  length-counts = go (eqb line 0)
+    where
+      go : (b : Bool) → length (cond b (sentence Places number) (spelled "knot")) ≤ longest
+      go true = sentence-short Places number
+      go false = omega arith
+
+module _ (number place line : ℕ) where
+  pub no-place : length (counts number line) ≡ 0 → at-place number place line ≡ []
+  unfolding at-place
+  no-place e = rw (eq-eqb (length (counts number line)) 0 e)
+
+  pub a-place : (length (counts number line) ≡ 0 → ⊥) → at-place number place line ≡ counts number line ++ worded " " place ++ spelled ": "
+  unfolding at-place
+  a-place e = rw (ne-eqb (length (counts number line)) 0 e)
+
+  length-behind : length (counts number line ++ worded " " place ++ spelled ": ") ≤ longest + 23
   unfolding spelled
   length-behind =
       omega
-      (arith, length-append (sentence Places number ++ worded " " place) (spelled ": "), length-append (sentence Places number) (worded " " place), length-worded " " place, sentence-short Places number)
+      (arith, length-append (counts number line ++ worded " " place) (spelled ": "), length-append (counts number line) (worded " " place), length-worded " " place, length-counts number line)
 
-  pub length-at-place : length (at-place number place) ≤ longest + 23
+  pub length-at-place : length (at-place number place line) ≤ longest + 23
   unfolding at-place
-  length-at-place = go (eqb (length (sentence Places number)) 0)
+  length-at-place = go (eqb (length (counts number line)) 0)
     where
-      go : (b : Bool) → length (cond b [] (sentence Places number ++ worded " " place ++ spelled ": ")) ≤ longest + 23
+      go : (b : Bool) → length (cond b [] (counts number line ++ worded " " place ++ spelled ": ")) ≤ longest + 23
       go true = omega arith
       go false = length-behind
 

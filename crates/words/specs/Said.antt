@@ -16,16 +16,20 @@ use Rattle.words.specs.Sentences.{sentence}
 unfoldable pub at-line : ℕ → List ℕ
 at-line line = cond (eqb line 0) (spelled ": ") (worded ":" line ++ spelled ": ")
 
--- "knot 2: ", by what the place of that number counts; nothing where it counts nothing
-unfoldable pub at-place : ℕ → ℕ → List ℕ
-at-place number place = cond (eqb (length (sentence Places number)) 0) [] (sentence Places number ++ worded " " place ++ spelled ": ")
+-- what the place counts: of a line of a sheet always the knot, also for a log's refusals, whose own place is a byte or none; without a line what the number says
+unfoldable pub counts : (number line : ℕ) → List ℕ
+counts number line = cond (eqb line 0) (sentence Places number) (spelled "knot")
+
+-- "knot 2: ", by what the place counts; nothing where it counts nothing
+unfoldable pub at-place : (number place line : ℕ) → List ℕ
+at-place number place line = cond (eqb (length (counts number line)) 0) [] (counts number line ++ worded " " place ++ spelled ": ")
 
 -- "refused 4: minute is not above the one before", and the end of the line
 unfoldable pub refused-words : ℕ → List ℕ
 refused-words number = worded "refused " number ++ spelled ": " ++ sentence Refusals number ++ (10 ∷ [])
 
 unfoldable pub refused-line : (number place line : ℕ) → List ℕ
-refused-line number place line = at-line line ++ at-place number place ++ refused-words number
+refused-line number place line = at-line line ++ at-place number place line ++ refused-words number
 
 abbrev pub quoted : List ℕ → List ℕ
 quoted word = spelled "'" ++ word ++ spelled "'"

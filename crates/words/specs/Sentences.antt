@@ -21,7 +21,7 @@ row what place remedy = record { what = what; place = place; remedy = remedy }
 abbrev pub no-refusal : Row
 no-refusal = row "" "" ""
 
--- 0 to 22; no refusal has a number from 23 to 25; 26
+-- 0 to 23; no refusal has a number 24 or 25; 26
 abbrev pub refusals : List Row
 refusals =
     (no-refusal
@@ -36,8 +36,8 @@ refusals =
     ∷ row "slope or curvature is beyond 1048576 card units" "knot" "the curve is too steep there: knots too close for so large a step; or a number on the card was changed"
     ∷ row "third or fourth derivative jumps by more than is allowed" "knot" "the numbers at or beside that knot do not belong together, most often since one was changed: make the card anew; if a fit says it, keep the sheet and report it"
     ∷ row "minute is outside the card" "" "it is before the first knot or after the last; a log's knot stands in its middle, so the first log's first half and the last log's second half are not on the card"
-    ∷ row "log byte is from 201 to 254" "byte" "the log is damaged at that byte"
-    ∷ row "log has no good byte" "" "the sensor was dead: leave this log out"
+    ∷ row "log byte is from 201 to 254" "byte" "the log is damaged at that byte; of a log in a sheet, whose place is the knot, kaihveto mean says the byte"
+    ∷ row "log has no good byte" "" "the sensor was dead: leave this log out, or write a hole at the minute of its middle and mend the sheet"
     ∷ row "record is cut short, of the wrong kind or length, or bytes follow the end" "byte" "the file is damaged there, or is another kind of file, or a book of more than 16384 bytes; of a card in a book the bytes count from the card's first"
     ∷ row "code of this end (0 left, 1 right) is not 0, 1 or 2" "end" "the card is damaged or comes from a newer program, or the calling program gave a wrong code"
     ∷ row "log has not 1 to 60 bytes" "" "cut a longer log to one hour, leave out an empty one"
@@ -47,8 +47,9 @@ refusals =
     ∷ row "room is not in the book" "" "look at the room's number: kaihveto book list says which rooms are there, kaihveto book put puts one in"
     ∷ row "book would be over 16384 bytes, or over the lent buffer" "" "put the card into a second book, or make it with fewer knots; a program that calls has to lend as many bytes as the book then has"
     ∷ row "room number is not above the one before" "byte" "the record there is out of order, or its room is in the book already: make the book anew from the rooms' cards"
+    ∷ row "log has good bytes, but fewer than half" "" "the sensor was out for most of that time: cut the log to minutes of which half are good, leave it out, or write a hole at the minute of its middle and mend the sheet"
     ∷ [])
-    ++ replicate 3 no-refusal
+    ++ replicate 2 no-refusal
     ++ (row "lent buffer or lists are too short" "" "lend 14 + 16n bytes, or n places" ∷ [])
 
 -- what is wrong with a word of a sheet's text, or with the whole of it
@@ -58,10 +59,11 @@ wrongs =
     ∷ "is not a whole number; hundredths are whole: write 550 for 5.5 %"
     ∷ "has a zero or a sign too many: write 50 for 050, and 0 for -0"
     ∷ "is too large: a minute is at most 65535, an ordinate from -32768 to 32767"
-    ∷ "stands alone: a knot is a minute and an ordinate"
-    ∷ "is one word too many: a knot is a minute and an ordinate"
+    ∷ "stands alone: a knot is a minute and an ordinate, or a minute and @FILE for a log"
+    ∷ "is one word too many: a knot is a minute and an ordinate, or a minute and @FILE for a log, whose name has no blank here"
     ∷ "is longer than 65535 bytes: no sheet is"
     ∷ "is a hole: kaihveto mend fills it"
+    ∷ "asks for the name of a log's file: write MINUTE @FILE"
     ∷ []
 
 -- one of the columns

@@ -7,7 +7,7 @@ ghost use lib.ListN.{length, getD};
 ghost use Rattle.decimal.specs.Put.{Put};
 ghost use Rattle.split.specs.Parts.{lines};
 ghost use Rattle.words.specs.Sentences.{sentence, longest};
-ghost use Rattle.words.specs.Said.{at-line, at-place, refused-words, refused-line, quoted, shown, wrong-line, mended-line};
+ghost use Rattle.words.specs.Said.{at-line, counts, at-place, refused-words, refused-line, quoted, shown, wrong-line, mended-line};
 
 // What a sentence is looked up in.
 pub enum Table {
@@ -57,7 +57,7 @@ pub fn put_sentence(to: &mut [u8], at: usize, table: Table, n: u32) -> usize
             room is not in the book\n\
             book would be over 16384 bytes, or over the lent buffer\n\
             room number is not above the one before\n\
-            \n\
+            log has good bytes, but fewer than half\n\
             \n\
             \n\
             lent buffer or lists are too short\n",
@@ -110,8 +110,8 @@ pub fn put_sentence(to: &mut [u8], at: usize, table: Table, n: u32) -> usize
             the curve is too steep there: knots too close for so large a step; or a number on the card was changed\n\
             the numbers at or beside that knot do not belong together, most often since one was changed: make the card anew; if a fit says it, keep the sheet and report it\n\
             it is before the first knot or after the last; a log's knot stands in its middle, so the first log's first half and the last log's second half are not on the card\n\
-            the log is damaged at that byte\n\
-            the sensor was dead: leave this log out\n\
+            the log is damaged at that byte; of a log in a sheet, whose place is the knot, kaihveto mean says the byte\n\
+            the sensor was dead: leave this log out, or write a hole at the minute of its middle and mend the sheet\n\
             the file is damaged there, or is another kind of file, or a book of more than 16384 bytes; of a card in a book the bytes count from the card's first\n\
             the card is damaged or comes from a newer program, or the calling program gave a wrong code\n\
             cut a longer log to one hour, leave out an empty one\n\
@@ -121,7 +121,7 @@ pub fn put_sentence(to: &mut [u8], at: usize, table: Table, n: u32) -> usize
             look at the room's number: kaihveto book list says which rooms are there, kaihveto book put puts one in\n\
             put the card into a second book, or make it with fewer knots; a program that calls has to lend as many bytes as the book then has\n\
             the record there is out of order, or its room is in the book already: make the book anew from the rooms' cards\n\
-            \n\
+            the sensor was out for most of that time: cut the log to minutes of which half are good, leave it out, or write a hole at the minute of its middle and mend the sheet\n\
             \n\
             \n\
             lend 14 + 16n bytes, or n places\n",
@@ -134,10 +134,11 @@ pub fn put_sentence(to: &mut [u8], at: usize, table: Table, n: u32) -> usize
             is not a whole number; hundredths are whole: write 550 for 5.5 %\n\
             has a zero or a sign too many: write 50 for 050, and 0 for -0\n\
             is too large: a minute is at most 65535, an ordinate from -32768 to 32767\n\
-            stands alone: a knot is a minute and an ordinate\n\
-            is one word too many: a knot is a minute and an ordinate\n\
+            stands alone: a knot is a minute and an ordinate, or a minute and @FILE for a log\n\
+            is one word too many: a knot is a minute and an ordinate, or a minute and @FILE for a log, whose name has no blank here\n\
             is longer than 65535 bytes: no sheet is\n\
-            is a hole: kaihveto mend fills it\n",
+            is a hole: kaihveto mend fills it\n\
+            asks for the name of a log's file: write MINUTE @FILE\n",
             n,
         ),
     }
@@ -155,12 +156,23 @@ fn put_line(to: &mut [u8], at: usize, line: u32) -> usize
     decimal::put_words(to, next, b": ")
 }
 
-// Where in the file, where the number says what its place counts.
-fn put_place(to: &mut [u8], at: usize, number: u32, place: u32) -> usize
-    requires { ⌜ at + longest + 23 ≤ length (now to) ⌝ }
-    ensures { λ r. ⌜ Put (at-place number place) (now (to .entry)) (now (to .exit)) at r ⌝ }
+// What the place counts: of a line of a sheet always the knot, without one what the number says.
+fn put_counts(to: &mut [u8], at: usize, number: u32, line: u32) -> usize
+    requires { ⌜ at + longest ≤ length (now to) ⌝ }
+    ensures { λ r. ⌜ Put (counts number line) (now (to .entry)) (now (to .exit)) at r ⌝ }
 {
-    let after_kind = put_sentence(to, at, Table::Places, number);
+    if line == 0 {
+        return put_sentence(to, at, Table::Places, number);
+    }
+    decimal::put_words(to, at, b"knot")
+}
+
+// Where in the file, where the place counts anything.
+fn put_place(to: &mut [u8], at: usize, number: u32, place: u32, line: u32) -> usize
+    requires { ⌜ at + longest + 23 ≤ length (now to) ⌝ }
+    ensures { λ r. ⌜ Put (at-place number place line) (now (to .entry)) (now (to .exit)) at r ⌝ }
+{
+    let after_kind = put_counts(to, at, number, line);
     if after_kind == at {
         return at;
     }
@@ -184,7 +196,7 @@ pub fn refused_line(to: &mut [u8], number: u32, place: u32, line: u32) -> usize
     ensures { λ r. ⌜ Put (refused-line number place line) (now (to .entry)) (now (to .exit)) 0 r ⌝ }
 {
     let after_line = put_line(to, 0, line);
-    let after_place = put_place(to, after_line, number, place);
+    let after_place = put_place(to, after_line, number, place, line);
     put_refused(to, after_place, number)
 }
 

@@ -21,7 +21,7 @@ put-refused-requires c κs =
     let p = c .before .before .before .before .before .before .before .put-line .ensures in
     let r = c .before .before .before .put-place .ensures in
     let a = c .before .before .before .before .before .before .before .before .before .before in
-    omega (arith, a .pre, p .behind, same-room p, r .behind, same-room r, length-at-line (a .args .line), length-at-place (a .args .number) (a .args .place))
+    omega (arith, a .pre, p .behind, same-room p, r .behind, same-room r, length-at-line (a .args .line), length-at-place (a .args .number) (a .args .place) (a .args .line))
 
 returns : tie.Need-returns
 unfolding refused-line
