@@ -20,11 +20,8 @@ pub(crate) fn is_dash(path: &[u8]) -> bool {
     path.len() == 1 && path[0] == b'-'
 }
 
-// As `load`, with nothing told.
-pub(crate) fn load_file(path: &[u8], bytes: &mut [u8]) -> isize {
-    if is_dash(path) {
-        return load_from(0, bytes);
-    }
+// A file by its name, whatever that is; nothing is told.
+pub(crate) fn load_named(path: &[u8], bytes: &mut [u8]) -> isize {
     let from = os::open_read(path);
     if from < 0 {
         return -1;
@@ -32,6 +29,14 @@ pub(crate) fn load_file(path: &[u8], bytes: &mut [u8]) -> isize {
     let got = load_from(from, bytes);
     libc::close(from);
     got
+}
+
+// As `load`, with nothing told.
+pub(crate) fn load_file(path: &[u8], bytes: &mut [u8]) -> isize {
+    if is_dash(path) {
+        return load_from(0, bytes);
+    }
+    load_named(path, bytes)
 }
 
 // Whether what failed did so since there is no file of that name; no file has one that is too long.

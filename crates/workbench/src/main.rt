@@ -11,6 +11,7 @@ mod logs;
 mod numbers;
 mod rooms;
 mod sheets;
+mod slots;
 mod tables;
 mod tell;
 

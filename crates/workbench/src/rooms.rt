@@ -15,17 +15,17 @@ pub(crate) fn part(bytes: &[u8], from: usize, to: usize) -> &[u8] {
     &bytes[..0]
 }
 
-// Where the last colon stands; the name's length where it has none.
-fn last_colon(name: &[u8]) -> usize {
-    let mut colon = name.len();
+// Where a byte stands last; the name's length where it does not.
+pub(crate) fn last(name: &[u8], byte: u8) -> usize {
+    let mut at = name.len();
     let mut i: usize = 0;
     while i < name.len() {
-        if name[i] == b':' {
-            colon = i;
+        if name[i] == byte {
+            at = i;
         }
         i += 1;
     }
-    colon
+    at
 }
 
 // What stands behind an offset.
@@ -38,7 +38,7 @@ fn behind(name: &[u8], at: usize) -> &[u8] {
 
 // Digits behind the last colon that are no room, since they may have been meant as one.
 pub(crate) fn tell_odd(name: &[u8]) {
-    let word = behind(name, last_colon(name));
+    let word = behind(name, last(name, b':'));
     if crate::arguments::nearly(word) {
         crate::arguments::told(word);
     }
@@ -46,7 +46,7 @@ pub(crate) fn tell_odd(name: &[u8]) {
 
 // A room has one spelling, as every number among the arguments, and a book has a name.
 pub(crate) fn named(name: &[u8]) -> Told {
-    let colon = last_colon(name);
+    let colon = last(name, b':');
     match crate::arguments::whole(behind(name, colon)) {
         Asked::Nothing => Told::Nothing,
         Asked::Whole(room) => {

@@ -1,4 +1,4 @@
-// The text of a sheet: fitted, or mended and then fitted, and listed, and its card made a file.
+// The text of a sheet, with the logs that it names: fitted, or mended and then fitted, and listed, and its card made a file.
 use mend::Plan;
 use reply::Answered;
 use text::Sheet;
@@ -11,7 +11,7 @@ enum Job {
 
 // A refusal is told behind the sheet's name. The card comes first, so that a listing is seen only where all is done; where none is asked for, its name counts for nothing.
 fn saved(
-    sheet: &[u8],
+    file: &[u8],
     asked: bool,
     card: &[u8],
     answered: Answered,
@@ -19,7 +19,7 @@ fn saved(
     made: &[u8],
 ) -> u8 {
     if answered.status != Answered::DONE {
-        io::write_all(2, sheet);
+        io::write_all(2, file);
         io::write_all(2, crate::tell::front(said, answered.length));
         return answered.status;
     }
@@ -38,27 +38,32 @@ fn listed(asked: bool, card: &[u8], listing: &[u8]) -> u8 {
     crate::tell::print(listing)
 }
 
-fn fit_text(text: &[u8], sheet: &[u8], asked: bool, card: &[u8]) -> u8 {
+fn fit_text(text: &[u8], file: &[u8], asked: bool, card: &[u8]) -> u8 {
+    let sheet = Sheet::read(text, false);
+    let mut logs = io::buffer();
+    if !crate::slots::load(file, text, sheet, &mut logs) {
+        return crate::tell::FAILED;
+    }
     let mut said = io::buffer();
     let mut made = io::buffer();
-    let answered = reply::answer(text, &mut said, &mut made);
+    let answered = reply::answer(text, sheet, &logs, &mut said, &mut made);
     let length = answered.length;
-    let status = saved(sheet, asked, card, answered, &said, &made);
+    let status = saved(file, asked, card, answered, &said, &made);
     if status != crate::tell::DONE {
         return status;
     }
     listed(asked, card, crate::tell::front(&said, length))
 }
 
-fn tell_change(sheet: &[u8], line: u32, knot: u32, new: i32) {
+fn tell_change(file: &[u8], line: u32, knot: u32, new: i32) {
     let mut said = io::buffer();
     let n = words::mended_line(&mut said, line, knot, new);
-    io::write_all(2, sheet);
+    io::write_all(2, file);
     io::write_all(2, crate::tell::front(&said, n));
 }
 
 // A line for each knot that was mended.
-fn tell_changes(sheet: &[u8], plan: Plan, lines: [u32; Sheet::MOST]) {
+fn tell_changes(file: &[u8], plan: Plan, lines: [u32; Sheet::MOST]) {
     let count = plan.count as usize;
     let places = plan.places;
     let news = plan.news;
@@ -68,50 +73,55 @@ fn tell_changes(sheet: &[u8], plan: Plan, lines: [u32; Sheet::MOST]) {
             return;
         }
         let knot = places[i];
-        tell_change(sheet, reply::line_of(lines, knot), knot, news[i]);
+        tell_change(file, reply::line_of(lines, knot), knot, news[i]);
         i += 1;
     }
 }
 
-fn mend_text(text: &[u8], sheet: &[u8], asked: bool, card: &[u8]) -> u8 {
+fn mend_text(text: &[u8], file: &[u8], asked: bool, card: &[u8]) -> u8 {
+    let sheet = Sheet::read(text, true);
+    let mut logs = io::buffer();
+    if !crate::slots::load(file, text, sheet, &mut logs) {
+        return crate::tell::FAILED;
+    }
     let mut said = io::buffer();
     let mut made = io::buffer();
-    let mending = reply::mend(text, &mut said, &mut made);
+    let mending = reply::mend(text, sheet, &logs, &mut said, &mut made);
     let answered = mending.answered;
     let plan = mending.plan;
     let lines = mending.lines;
     let length = answered.length;
-    let status = saved(sheet, asked, card, answered, &said, &made);
+    let status = saved(file, asked, card, answered, &said, &made);
     if status != crate::tell::DONE {
         return status;
     }
-    tell_changes(sheet, plan, lines);
+    tell_changes(file, plan, lines);
     listed(asked, card, crate::tell::front(&said, length))
 }
 
-fn with_sheet(sheet: &[u8], asked: bool, card: &[u8], job: Job) -> u8 {
+fn with_sheet(file: &[u8], asked: bool, card: &[u8], job: Job) -> u8 {
     let mut bytes = io::large_buffer();
-    let got = crate::files::load(sheet, &mut bytes);
+    let got = crate::files::load(file, &mut bytes);
     if got < 0 {
         return crate::tell::FAILED;
     }
     let n = io::count(got, &bytes);
     match job {
-        Job::Fit => fit_text(&bytes[..n], sheet, asked, card),
-        Job::Mend => mend_text(&bytes[..n], sheet, asked, card),
+        Job::Fit => fit_text(&bytes[..n], file, asked, card),
+        Job::Mend => mend_text(&bytes[..n], file, asked, card),
     }
 }
 
 // Arguments 2 and, where there is one, 3.
 fn run(count: usize, job: Job) -> u8 {
-    let mut sheet = io::buffer();
-    let n = os::arg(2, &mut sheet);
+    let mut file = io::buffer();
+    let n = os::arg(2, &mut file);
     if count < 4 {
-        return with_sheet(&sheet[..n], false, b"", job);
+        return with_sheet(&file[..n], false, b"", job);
     }
     let mut card = io::buffer();
     let k = os::arg(3, &mut card);
-    with_sheet(&sheet[..n], true, &card[..k], job)
+    with_sheet(&file[..n], true, &card[..k], job)
 }
 
 pub(crate) fn fit(count: usize) -> u8 {

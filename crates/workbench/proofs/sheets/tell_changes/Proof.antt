@@ -7,10 +7,10 @@ use Rattle.workbench.proofs.sheets.tell_changes.Statement.{statement}
 use Rattle.workbench.proofs.sheets.tell_changes.Tie as tie
 
 abbrev Inv-loop : tie.InvT-loop
-Inv-loop sheet lines count places news i₀ i = Unit {0}
+Inv-loop file lines count places news i₀ i = Unit {0}
 
 abbrev μ-loop : tie.MeasureT-loop
-μ-loop sheet lines count places news i₀ i = most - i
+μ-loop file lines count places news i₀ i = most - i
 
 loop-less : tie.Need-loop-less Inv-loop μ-loop
 loop-less c = omega arith
