@@ -508,8 +508,8 @@ knot-listed = putting _ _ _ _
 pub sheet-listed : Once list-sheet.Post × Lent list-sheet.Post (λ s. now (s .1 .0))
 sheet-listed = putting _ _ _ _
 
--- and here the seventh
-pub listed : Once list.Post × Lent list.Post (λ s. now (s .1 .1 .1 .1 .1 .1 .0))
+-- and here the eighth
+pub listed : Once list.Post × Lent list.Post (λ s. now (s .1 .1 .1 .1 .1 .1 .1 .0))
 listed = putting _ _ _ _
 
 -- ---- what the command reads and says
