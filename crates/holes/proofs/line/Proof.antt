@@ -10,7 +10,7 @@ use mir.Facts.{toZ-ofZ}
 use borrow.Author.Needs.{needs}
 use Rattle.whole.specs.Whole.{nearest}
 use Rattle.curve.specs.Kind.{quintic}
-use Rattle.knots.proofs.Widened.{widened-fits, widened-is}
+use Rattle.whole.proofs.Widened.{widened-fits, widened-is}
 use Rattle.holes.specs.Hole.{line}
 use Rattle.holes.proofs.Lines.{weighed-most, line-fits}
 use Rattle.holes.proofs.line.Statement.{statement}

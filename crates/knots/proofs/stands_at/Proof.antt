@@ -14,7 +14,7 @@ use mir.Val.{SFits}
 use Rattle.whole.specs.Whole.{beyond}
 use Rattle.curve.specs.Kind.{quintic}
 use Rattle.curve.specs.Card.{back}
-use Rattle.knots.proofs.Widened.{widened-fits, widened-is}
+use Rattle.whole.proofs.Widened.{widened-fits, widened-is}
 use Rattle.knots.proofs.Stands.{above, not-above, gap-over, ordinate-beyond, it-stands}
 use Rattle.knots.proofs.stands_at.Statement.{statement}
 use Rattle.knots.proofs.stands_at.Tie as tie

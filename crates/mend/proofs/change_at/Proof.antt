@@ -7,7 +7,7 @@ use lib.ListN.{getD}
 use mir.Syntax.{w16, w32}
 use mir.Val.{SFits}
 use mir.Facts.{toZ-ofZ}
-use Rattle.knots.proofs.Widened.{widened-fits, widened-is}
+use Rattle.whole.proofs.Widened.{widened-fits, widened-is}
 use Rattle.holes.specs.Hole.{is-hole, hole-at}
 use Rattle.mend.specs.Changes.{change-at}
 use borrow.Author.Needs.{needs}
