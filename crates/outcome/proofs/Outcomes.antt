@@ -40,6 +40,7 @@ use Rattle.knots.proofs.in_range.Reads as in-range
 use Rattle.minutes.proofs.outside.Reads as outside
 use Rattle.minutes.proofs.gap_of.Reads as gap-of
 use Rattle.gaps.proofs.Knot.mirrored.Reads as mirrored
+use Rattle.weight_sheet.proofs.Found.of.Reads as sheet-of
 use Rattle.weights.proofs.Weights.of.Reads as weights-of
 use Rattle.parts.proofs.Parts.of.Reads as parts-of
 use Rattle.parts.proofs.numerator.Reads as numerator
@@ -368,8 +369,8 @@ minutes = (equation _ _, equation _ _, equation _ _, equation _ _, equation _ _,
 pub knots : Once kind-quintic.Post × Once same-lengths.Post × Once counted.Post × Once codes.Post × Once sized.Post × Once room.Post × Once stand.Post × Once in-range.Post
 knots = (equation _ _, judgement _, judgement _, judgement _, judgement _, judgement _, judgement _, λ κs a x y s t p q. one-judgement (p [] 0 0) (q [] 0 0))
 
-pub one-gap : Once mirrored.Post × Once weights-of.Post × Once parts-of.Post × Once numerator.Post × Once denominator.Post × Once reading-between.Post
-one-gap = (equation _ _, equation _ _, equation _ _, equation _ _, equation _ _, equation _ _)
+pub one-gap : Once mirrored.Post × Once sheet-of.Post × Once weights-of.Post × Once parts-of.Post × Once numerator.Post × Once denominator.Post × Once reading-between.Post
+one-gap = (equation _ _, equation _ _, equation _ _, equation _ _, equation _ _, equation _ _, equation _ _)
 
 pub two-gaps : Once jump.Post × Once allowance.Post × Once jumps.Post
 two-gaps = (equation _ _, equation _ _, equation _ _)
