@@ -2,7 +2,8 @@
 -- the value. Assumes nothing.
 use Prim.Native.Nat.{ℕ}
 use lib.IntN.{ℤ}
-use Rattle.curve.specs.Formula.{Formula, τ, num, _⊕_, _⊖_, _⊗_, _⊛_, _^^_, worth, ∂^}
+use Rattle.curve.specs.Formula.{Formula, num, worth, ∂^}
+use Rattle.weight_sheet.specs.Weight.{ordinate-weight, slope-weight, curvature-weight}
 use Rattle.weights.specs.declared.Weights.{Weights}
 use Rattle.weights.specs.declared.Quantity.{Quantity}
 use Rattle.weights.specs.declared.Quantity.the-variants.{Value, Slope, Curvature}
@@ -15,9 +16,9 @@ derivative Curvature = 2
 
 -- what the left knot's ordinate, slope and curvature weigh in N on a gap h
 unfoldable pub weight : {A : Type 0} → Quantity → Formula A → Formula A
-weight Value h = (h ⊖ τ) ^^ 3 ⊗ (h ^^ 2 ⊕ 3 ⊛ h ⊗ τ ⊕ 6 ⊛ τ ^^ 2)
-weight Slope h = τ ⊗ (h ⊖ τ) ^^ 3 ⊗ (h ⊕ 3 ⊛ τ)
-weight Curvature h = τ ^^ 2 ⊗ (h ⊖ τ) ^^ 3
+weight Value h = ordinate-weight h
+weight Slope h = slope-weight h
+weight Curvature h = curvature-weight h
 
 -- and in a quantity, at t minutes
 unfoldable pub weighs : Quantity → Quantity → ℤ → ℤ → ℤ

@@ -18,8 +18,8 @@ pub struct Weights {
 }
 
 impl Weights {
-    // t minutes into a gap of h.
-    fn of_value(h: i64, t: i64) -> Weights
+    // t minutes into a gap of h, by the formula.
+    fn by_formula(h: i64, t: i64) -> Weights
         requires { ⌜ In-gap h t ⌝ }
         ensures { λ r. ⌜ r ≡ weigh Quantity.Value h t ⌝ }
     {
@@ -29,6 +29,21 @@ impl Weights {
             ordinate: cube * (h * h + 3 * h * t + 6 * t * t),
             slope: t * cube * (h + 3 * t),
             curvature: t * t * cube,
+        }
+    }
+
+    // Off the weight sheet, where it has the gap.
+    fn of_value(h: i64, t: i64) -> Weights
+        requires { ⌜ In-gap h t ⌝ }
+        ensures { λ r. ⌜ r ≡ weigh Quantity.Value h t ⌝ }
+    {
+        match weight_sheet::Found::of(h as usize, t as usize) {
+            weight_sheet::Found::There(row) => Weights {
+                ordinate: row.ordinate as i64,
+                slope: row.slope as i64,
+                curvature: row.curvature as i64,
+            },
+            weight_sheet::Found::Nothing => Weights::by_formula(h, t),
         }
     }
 

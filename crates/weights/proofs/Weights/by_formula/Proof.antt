@@ -1,4 +1,4 @@
--- `Weights::of_value` meets its contract: its operations fit, and the three are the weights in the value.
+-- `Weights::by_formula` meets its contract: its operations fit, and the three are the weights in the value.
 -- Assumes nothing.
 use mathlib.Core.List.{[], _∷_}
 use lib.Dec.{T}
@@ -9,8 +9,8 @@ use Rattle.whole.proofs.Machine.{held, res, safe, step}
 use Rattle.gaps.proofs.Minutes.{gap-tops, minute-in}
 use Rattle.weights.specs.declared.Quantity.the-variants.{Value, Slope, Curvature}
 use Rattle.weights.proofs.Written.{coded, weighed}
-use Rattle.weights.proofs.Weights.of_value.Statement.{statement}
-use Rattle.weights.proofs.Weights.of_value.Tie as tie
+use Rattle.weights.proofs.Weights.by_formula.Statement.{statement}
+use Rattle.weights.proofs.Weights.by_formula.Tie as tie
 
 abbrev s : E
 s = h :- t
@@ -21,8 +21,8 @@ cube = s :* s :* s
 op : (e : E) → T (safe w64 gap-tops e) → (c : tie.Start) → SFits w64 (res w64 (held (c .args .h) ∷ held (c .args .t) ∷ []) e)
 op e t c = step (minute-in (c .pre)) e t
 
-pub of-value-spec : {M : Type 1} → statement M
-of-value-spec =
+pub by-formula-spec : {M : Type 1} → statement M
+by-formula-spec =
     tie.close
     (tie.spec
     (op s tt)
