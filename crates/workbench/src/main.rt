@@ -1,4 +1,4 @@
-// What stands behind the command `kaihveto`: workbench fit SHEET [CARD], mend SHEET [CARD], list CARD, check CARD .., at CARD MINUTE .., table CARD [EVERY], points CARD, mean MINUTE LOG, why NUMBER,
+// What stands behind the command `kaihveto`: workbench fit SHEET [CARD], mend SHEET [CARD], list CARD, check CARD .., at CARD MINUTE .., table CARD [EVERY], points CARD, mean MINUTE LOG, why NUMBER, weights,
 // book new BOOK, book list BOOK, book find BOOK ROOM [CARD], book put BOOK ROOM CARD, save FILE. A CARD that is read may be BOOK:ROOM. Results go to standard output, complaints to standard error, and one byte to descriptor 3, since a program of Rattle has no exit status (`tell`). What is proved of the
 // lines is said in the crates that are called; here every function is proved safe and ending.
 mod arguments;
@@ -14,6 +14,7 @@ mod sheets;
 mod slots;
 mod tables;
 mod tell;
+mod weights;
 
 fn run(command: &[u8], count: usize) -> u8 {
     if arguments::same(command, b"fit") {
@@ -27,6 +28,9 @@ fn run(command: &[u8], count: usize) -> u8 {
     }
     if arguments::same(command, b"why") {
         return numbers::why();
+    }
+    if arguments::same(command, b"weights") {
+        return weights::print();
     }
     if arguments::same(command, b"book") {
         return books::run(count);
