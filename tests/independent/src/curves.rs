@@ -190,16 +190,33 @@ pub fn end(random: &mut Random, code: u16, specials: &[f64]) -> End {
     End { code, slope: number(), curvature: number() }
 }
 
+/// A sheet fitted by the reference with these end codes, where it is not refused.
+fn fitted_sheet(random: &mut Random, sheet: Sheet, left: u16, right: u16) -> Option<Numbers> {
+    let mut given =
+        |code| End { code, slope: random.within(-3000, 3000) as f64 / 700.0, curvature: random.within(-500, 500) as f64 / 900.0 };
+    let (left, right) = (given(left), given(right));
+    let n = sheet.minutes.len();
+    let (mut slopes, mut curvatures) = (vec![0; n], vec![0; n]);
+    let fit = reference::fit_ends(&sheet.minutes, &sheet.ordinates, &mut slopes, &mut curvatures, left, right);
+    fit.is_ok().then_some(Numbers { sheet, slopes, curvatures, left: left.code, right: right.code })
+}
+
 /// A card fitted by the reference, of n knots and these end codes.
 pub fn fitted(random: &mut Random, n: usize, left: u16, right: u16) -> Numbers {
     loop {
         let sheet = sheet(random, n);
-        let mut given =
-            |code| End { code, slope: random.within(-3000, 3000) as f64 / 700.0, curvature: random.within(-500, 500) as f64 / 900.0 };
-        let (left, right) = (given(left), given(right));
-        let (mut slopes, mut curvatures) = (vec![0; n], vec![0; n]);
-        if reference::fit_ends(&sheet.minutes, &sheet.ordinates, &mut slopes, &mut curvatures, left, right).is_ok() {
-            return Numbers { sheet, slopes, curvatures, left: left.code, right: right.code };
+        if let Some(numbers) = fitted_sheet(random, sheet, left, right) {
+            return numbers;
+        }
+    }
+}
+
+/// The same at these minutes.
+pub fn fitted_at(random: &mut Random, minutes: &[u16], left: u16, right: u16) -> Numbers {
+    loop {
+        let sheet = Sheet { minutes: minutes.to_vec(), ordinates: ordinates(random, minutes) };
+        if let Some(numbers) = fitted_sheet(random, sheet, left, right) {
+            return numbers;
         }
     }
 }
@@ -244,10 +261,16 @@ pub fn extreme(random: &mut Random, n: usize) -> Numbers {
     Numbers { sheet, slopes, curvatures, left: random.below(3) as u16, right: random.below(3) as u16 }
 }
 
-/// Three knots with large numbers that do not jump: a card alike on both sides of its middle (turned over at the middle
-/// or not), its middle number taken so that the one equation left holds.
+/// Three knots with large numbers that do not jump, on gaps of some widths.
 pub fn large_and_sound(random: &mut Random) -> Option<Numbers> {
-    let h = random.pick(&[1, 2, 15, 30, i64::from(WIDEST_GAP) - 1, i64::from(WIDEST_GAP)]);
+    let gap = random.pick(&[1, 2, 15, 30, WIDEST_GAP - 1, WIDEST_GAP]);
+    large_on(random, gap)
+}
+
+/// The same on gaps of this width: a card alike on both sides of its middle (turned over at the middle or not), its middle
+/// number taken so that the one equation left holds.
+pub fn large_on(random: &mut Random, gap: u16) -> Option<Numbers> {
+    let h = i64::from(gap);
     let (ordinate, card) = (i64::from(ORDINATE_LIMIT), i64::from(CARD_NUMBER_LIMIT));
     let turned = random.once_in(2);
     let mut large = |limit: i64| if random.once_in(2) { random.pick(&[limit, -limit]) } else { random.within(-limit, limit) };

@@ -306,6 +306,24 @@ fn readings(tally: &mut Tally, random: &mut Random) {
     }
 }
 
+/// Readings at every minute of the weight sheet's gaps and of those about them: off fitted cards with every two of them side by
+/// side, and off cards with large numbers.
+fn on_the_weight_sheet(tally: &mut Tally, random: &mut Random) {
+    let about = [14, 15, 16, 29, 30, 31, 59, 60];
+    for gap in about {
+        for other in about {
+            for _ in 0..3 {
+                let minutes = minutes_after(random.within(0, 60_000) as u16, &[gap, other, gap]);
+                let [left, right] = random.pick(&mixes());
+                compare::readings(tally, &curves::fitted_at(random, &minutes, left, right).bytes());
+            }
+        }
+        for numbers in (0..60).filter_map(|_| curves::large_on(random, gap)) {
+            compare::readings(tally, &numbers.bytes());
+        }
+    }
+}
+
 /// Fitted cards with slopes and curvatures moved until they jump: the last card accepted and the first refused, for each
 /// number of the card, then several numbers moved a little at once.
 fn near_the_allowance(tally: &mut Tally, random: &mut Random) {
@@ -649,7 +667,7 @@ type Group = fn(&mut Tally, &mut Random);
 
 /// Runs every group, prints the numbers, and says whether nothing differed and nothing was left unmet.
 pub fn all() -> bool {
-    let groups: [(&str, Group); 16] = [
+    let groups: [(&str, Group); 17] = [
         ("logs", logs),
         ("fits", fits),
         ("given numbers", given),
@@ -666,6 +684,7 @@ pub fn all() -> bool {
         ("bytes of books", books::bytes_of_books),
         ("books about their limits", books::limits_of_books),
         ("books in use", books::books_in_use),
+        ("gaps of the weight sheet", on_the_weight_sheet),
     ];
     let mut tally = Tally::default();
     for (seed, (name, group)) in groups.iter().enumerate() {

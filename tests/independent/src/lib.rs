@@ -18,4 +18,6 @@ pub mod groups;
 pub mod lines;
 pub mod random;
 pub mod reference;
+#[cfg(test)]
+mod sheet;
 pub mod vectors;
