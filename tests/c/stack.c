@@ -4,7 +4,7 @@
 
 #include <stdio.h>
 
-enum { KNOTS = KAIHVETO_MOST_KNOTS, GAP = 10, MINUTES = GAP * (KNOTS - 1) + 1, ROOMS = 14, DEPTH = 1 << 16, MOST = 1 << 15, PAINT = 0xa5 };
+enum { KNOTS = KAIHVETO_MOST_KNOTS, GAP = 15, MINUTES = GAP * (KNOTS - 1) + 1, ROOMS = 14, DEPTH = 1 << 16, MOST = 1 << 15, PAINT = 0xa5 };
 
 static uint16_t minutes[KNOTS];
 static int16_t ordinates[KNOTS];

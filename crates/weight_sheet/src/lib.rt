@@ -33,11 +33,13 @@ impl Row {
         requires { ⌜ i < rows ⌝ }
         ensures { λ r. ⌜ r ≡ sheet-row i ⌝ }
     {
+        // once: the compiler writes a constant to the stack wherever it stands
+        let numbers = NUMBERS;
         let at = 3 * i;
         Row {
-            ordinate: NUMBERS[at],
-            slope: NUMBERS[at + 1],
-            curvature: NUMBERS[at + 2],
+            ordinate: numbers[at],
+            slope: numbers[at + 1],
+            curvature: numbers[at + 2],
         }
     }
 }
