@@ -6,7 +6,7 @@ use Prim.Native.Nat.{ℕ, _+_, _*_, _-_, _≤_, _<_}
 use native.Mathlib.Nat.{zero-add}
 use native.Mathlib.Omega.{arith}
 use borrow.Author.Tests.{lt-ltb, le-ltb}
-use lib.Dec.{T, leb}
+use lib.Dec.{T}
 use lib.IntN.{ℤ, pos}
 use lib.ListN.{getD}
 use lib.Signed.{leZ}
@@ -20,7 +20,7 @@ use Rattle.gaps.proofs.Kept.{upto-at}
 use Rattle.weight_sheet.specs.declared.Row.{Row}
 use Rattle.weight_sheet.specs.declared.Found.{Found}
 use Rattle.weight_sheet.specs.declared.Found.the-variants.{There, Nothing}
-use Rattle.weight_sheet.specs.Sheet.{on-sheet, row, found, rows, sheet-row}
+use Rattle.weight_sheet.specs.Sheet.{has, row, found, rows, sheet-row}
 use Rattle.weight_sheet.proofs.Numbers.{numbers}
 
 -- what the code reads at a place of the table, and of a row
@@ -87,7 +87,7 @@ row-or r Nothing = r
 -- a row that is found has the weights of its minute by their formulas
 pub found-row : (h t : ℕ) {r : Row} → There r ≡ found h t → r ≡ row h t
 unfolding found row-or
-found-row h t e = ap (row-or (row h t)) e ∙ either (on-sheet h && leb t h)
+found-row h t e = ap (row-or (row h t)) e ∙ either (has h t)
   where
     either : (b : Bool) → row-or (row h t) (cond b (There (row h t)) Nothing) ≡ row h t
     either true = refl

@@ -13,6 +13,10 @@ use Rattle.weight_sheet.specs.Weight.{ordinate-weight, slope-weight, cur
 abbrev pub on-sheet : ℕ → Bool
 on-sheet h = eqb h 15 || eqb h 30 || eqb h 60
 
+-- and of those their minutes, from 0 to the gap
+abbrev pub has : ℕ → ℕ → Bool
+has h t = on-sheet h && leb t h
+
 -- the weights of minute t of a gap h, by their formulas
 unfoldable pub row : ℕ → ℕ → Row
 row h t =
@@ -24,7 +28,7 @@ row h t =
 
 -- what the sheet has of that minute
 unfoldable pub found : ℕ → ℕ → Found
-found h t = cond (on-sheet h && leb t h) (There (row h t)) Nothing
+found h t = cond (has h t) (There (row h t)) Nothing
 
 -- ---- inside
 

@@ -14,7 +14,7 @@ derivative Value = 0
 derivative Slope = 1
 derivative Curvature = 2
 
--- what the left knot's ordinate, slope and curvature weigh in N on a gap h
+-- what the left knot's ordinate, slope and curvature weigh in N on a gap h, by the formulas that the weight sheet follows
 unfoldable pub weight : {A : Type 0} → Quantity → Formula A → Formula A
 weight Value h = ordinate-weight h
 weight Slope h = slope-weight h
