@@ -19,7 +19,7 @@ use Rattle.rows.specs.Equations.{code}
 use Rattle.ends.specs.Ends.{end-by}
 use Rattle.ends.proofs.Codes.{code-known, code-asked}
 use Rattle.numbers.specs.Numbers.{slope-at, curvature-at}
-use Rattle.fit.specs.Fit.{solved, card-of, fit-of, fit-codes}
+use Rattle.fit.specs.Fit.{solved, card-of, fit-of, fit-codes, default-left, default-right, fit}
 
 abbrev card-in : Card → Answer Card → Card
 card-in d (given c) = c
@@ -80,3 +80,8 @@ its-codes xs ys ms Ms left slope curvature right slope′ curvature′ e =
     let known-left = ltb-false 2 left (refuse-accepts 15 0 _ (first-accepts _ _ k)) in
     let known-right = ltb-false 2 right (refuse-accepts 15 1 _ (next-accepts _ _ k)) in
     (ap (λ d. d .left) is ∙ code-asked left slope curvature known-left, ap (λ d. d .right) is ∙ code-asked right slope′ curvature′ known-right)
+
+-- of a fit without ends they are 1 and 0
+pub default-codes : (xs : List ℕ) (ys : List ℤ) (ms Ms : ℕ) {c : Card} → fit xs ys ms Ms ≡ given c → (c .left ≡ 1) × (c .right ≡ 0)
+unfolding card-of
+default-codes xs ys ms Ms e = let is = its-card xs ys default-left default-right ms Ms accepted e in (ap (λ d. d .left) is, ap (λ d. d .right) is)

@@ -6,3 +6,5 @@ pub mod Card
 pub mod Numbered
 pub mod Outcome
 pub mod Table3
+pub mod Nought
+pub mod AtRest

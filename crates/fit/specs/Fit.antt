@@ -13,7 +13,8 @@ use Rattle.curve.specs.Steps.{codes, stands}
 use Rattle.curve.specs.Orders.{numbers-sound, fit-order}
 use Rattle.knots.specs.Lent.{lent}
 use Rattle.rows.specs.declared.End.{End}
-use Rattle.rows.specs.declared.End.the-variants.{Free}
+use Rattle.rows.specs.declared.End.the-variants.{Free, Both}
+use Rattle.rows.specs.Floats.{f0}
 use Rattle.rows.specs.Equations.{code}
 use Rattle.elimination.specs.Elimination.{backward}
 use Rattle.passes.specs.declared.Solved.{Solved}
@@ -48,6 +49,13 @@ module _ (xs : List ℕ) (ys : List ℤ) (left right : End) where
   unfoldable pub fit-of : (ms Ms : ℕ) → (named : Verdict) → Answer Card
   fit-of ms Ms named = fit-order quintic ms Ms named (ends (length xs) left right) eliminated card-of then given card-of
 
+-- "a fit without ends has slope 0 and curvature 0 given at the left, and stays free at the right" (document 02, order 6)
+abbrev pub default-left : End
+default-left = Both f0 f0
+
+abbrev pub default-right : End
+default-right = Free
+
 module _ (xs : List ℕ) (ys : List ℤ) (ms Ms : ℕ) where
   -- between ends that are named by their kind
   abbrev pub fit-between : End → End → Answer Card
@@ -57,6 +65,5 @@ module _ (xs : List ℕ) (ys : List ℤ) (ms Ms : ℕ) where
   abbrev pub fit-codes : (left : ℕ) → (slope curvature : Float) → (right : ℕ) → (slope′ curvature′ : Float) → Answer Card
   fit-codes left slope curvature right slope′ curvature′ = fit-of xs ys (end-by left slope curvature) (end-by right slope′ curvature′) ms Ms (codes quintic left right)
 
-  -- "A fit asked without ends takes free at both."
   abbrev pub fit : Answer Card
-  fit = fit-between Free Free
+  fit = fit-between default-left default-right

@@ -15,6 +15,11 @@ use answer::Judged;
 use numbers::Numbers;
 use rows::End;
 
+// The ends of a fit that is asked without ends.
+pub const DEFAULT_LEFT: End = End::Both(0.0, 0.0);
+
+pub const DEFAULT_RIGHT: End = End::Free;
+
 // Number and place; zeros where it is accepted.
 #[repr(C)]
 pub struct Fitted {
@@ -209,12 +214,19 @@ pub fn fit_codes(
     fit_into(minutes, ordinates, slopes, curvatures, named, from, to)
 }
 
-// "A fit asked without ends takes free at both."
+// "A fit without ends has slope 0 and curvature 0 given at the left, and stays free at the right": document 02, order 6.
 pub fn fit(minutes: &[u16], ordinates: &[i16], slopes: &mut [i32], curvatures: &mut [i32]) -> Fitted
     ensures { λ r. ⌜
         Fits
         (fit (now (minutes .entry)) (now (ordinates .entry)) (length (now (slopes .entry))) (length (now (curvatures .entry))))
         (now (slopes .entry)) (now (curvatures .entry)) (now (slopes .exit)) (now (curvatures .exit)) r ⌝ }
 {
-    fit_between(minutes, ordinates, slopes, curvatures, End::Free, End::Free)
+    fit_between(
+        minutes,
+        ordinates,
+        slopes,
+        curvatures,
+        DEFAULT_LEFT,
+        DEFAULT_RIGHT,
+    )
 }
