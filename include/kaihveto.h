@@ -67,6 +67,12 @@ extern "C" {
    input gets another answer. MINOR rises where something is added and all else stays. The archive itself does not carry it:
    take both from one state of the sources.
 
+   4.0: kaihveto_fit starts at rest, where before both its ends were free: the same knots get another card, and some that were
+   accepted are refused with 9, or the other way round. A program that writes what it has fitted passes the codes of that fit,
+   KAIHVETO_DEFAULT_LEFT and KAIHVETO_DEFAULT_RIGHT: with KAIHVETO_FREE at the left, as before, the card is as a rule refused with
+   10 at 0. The former curve is that of kaihveto_fit_ends with KAIHVETO_FREE at both ends. Nothing else moved: cards are read as
+   they were, and kaihveto_mend still fits between free ends.
+
    3.0: the answer of kaihveto_mean has the faults, behind the good bytes, and is 4 bytes longer for it: a program that calls it
    is to be compiled anew, since one that was compiled with a header before has too little room for the answer. And the mean needs
    half of the log's bytes to be good: a log with fewer, which was accepted before or was 19, is refused with 23.
@@ -75,13 +81,17 @@ extern "C" {
 
    2.0: kaihveto_mean answers the minute in the log's middle, where 1.2 answered the log's first, and has the refusal 19. Cards
    that were made with the first minutes lead the rooms by half a log, and are to be made anew. */
-#define KAIHVETO_VERSION_MAJOR 3
+#define KAIHVETO_VERSION_MAJOR 4
 #define KAIHVETO_VERSION_MINOR 0
 
 /* The end codes. */
 #define KAIHVETO_FREE 0
 #define KAIHVETO_BOTH_GIVEN 1
 #define KAIHVETO_CURVATURE_GIVEN 2
+
+/* The end codes of the card that kaihveto_fit gives: slope and curvature given at the left, free at the right. */
+#define KAIHVETO_DEFAULT_LEFT 1
+#define KAIHVETO_DEFAULT_RIGHT 0
 
 /* The fewest and the most knots of a card, its widest gap in minutes, and the bytes of a card of n knots. */
 #define KAIHVETO_FEWEST_KNOTS 3
@@ -157,7 +167,9 @@ typedef struct {
 kaihveto_mean_answer kaihveto_mean(uint16_t first_minute, const uint8_t *log, size_t log_length);
 
 /* The fit: the slopes and curvatures, in card units, of the curve through these knots. All four lists have one length, the
-   number of knots; on acceptance every place of slopes and curvatures is written. Both ends are free.
+   number of knots; on acceptance every place of slopes and curvatures is written. The curve starts at rest, with slope 0 and
+   curvature 0 at the first knot, and is free at the last. Its card is written with the codes KAIHVETO_DEFAULT_LEFT and
+   KAIHVETO_DEFAULT_RIGHT: with KAIHVETO_FREE at the left kaihveto_write refuses it as a rule with 10 at 0.
    Refusals, in this order: 3, 1, 2; 4, 5, 6 knot by knot; 8, 9, 10. */
 typedef struct {
     uint32_t number;
@@ -169,8 +181,9 @@ kaihveto_fit_answer kaihveto_fit(const uint16_t *minutes, size_t minutes_length,
                                  int32_t *slopes, size_t slopes_length,
                                  int32_t *curvatures, size_t curvatures_length);
 
-/* The same with ends of the caller's choice. The given numbers are in hundredths per minute and per minute squared, not in
-   card units; those that a code does not use are not looked at.
+/* The same with ends of the caller's choice, KAIHVETO_FREE at both for a curve that may start with a slope; the card is written
+   with the codes that were chosen here. The given numbers are in hundredths per minute and per minute squared, not in card units;
+   those that a code does not use are not looked at.
    Refusals, in this order: 3, 1, 2, 15; 4, 5, 6 knot by knot; 7 left, then right; 8, 9, 10. */
 kaihveto_fit_answer kaihveto_fit_ends(const uint16_t *minutes, size_t minutes_length,
                                       const int16_t *ordinates, size_t ordinates_length,
@@ -248,8 +261,8 @@ kaihveto_table_answer kaihveto_table(const uint8_t *card, size_t card_length, ui
 
 /* Fits a card's own knots anew, into two lists of one length: on acceptance the first n places of each, n being the card's
    number of knots, and no other. The ends have the card's codes, and a number that a code gives is the card's own there. The
-   answer has n, and how many of the card's 2n slopes and curvatures are not the fit's. A card that was fitted with free ends
-   and not changed since has none. A given number is taken as it stands on the card: where it was changed, only the others
+   answer has n, and how many of the card's 2n slopes and curvatures are not the fit's. A card of kaihveto_fit, or one that was
+   fitted with free ends, that was not changed since has none. A given number is taken as it stands on the card: where it was changed, only the others
    can show it; and where the fit was given one between two card units, some others may differ by a few units though nothing
    was changed.
    Refusals, in this order: 3, those of kaihveto_check, 26, and then the fit's own, 8, 9, 10. */
@@ -266,7 +279,7 @@ kaihveto_refit_answer kaihveto_refit(const uint8_t *card, size_t card_length,
 
 /* Mends a sheet with holes and fits it: each ordinate that is KAIHVETO_HOLE becomes the value, at its minute, of the straight line
    between the nearest knots left and right that are no holes, rounded to nearest, ties to even; then slopes and curvatures are
-   fitted as by kaihveto_fit, with both ends free. Minutes, ordinates, slopes and curvatures have one length, the number of knots;
+   fitted as by kaihveto_fit_ends, with KAIHVETO_FREE at both ends, and so are the codes of its card. Minutes, ordinates, slopes and curvatures have one length, the number of knots;
    the list of changes has a place for each hole, and may have more. On acceptance the holes among the ordinates are filled, every
    place of slopes and curvatures is written, and the first places of the list of changes tell each hole's place, its old number
    and its new one, in rising order; nothing else is written. The answer has how many they are. Who writes the old numbers back to

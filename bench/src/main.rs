@@ -54,8 +54,18 @@ fn hall(cards: &[Vec<u8>], first: usize) -> Vec<u8> {
     book
 }
 
+/// A card of free ends, whose knots the fit without ends accepts too.
+fn card(random: &mut Random) -> Numbers {
+    loop {
+        let card = curves::fitted(random, KNOTS, 0, 0);
+        if reference::fit(&card.sheet.minutes, &card.sheet.ordinates, &mut [0; KNOTS], &mut [0; KNOTS]).is_ok() {
+            return card;
+        }
+    }
+}
+
 fn inputs(random: &mut Random) -> Inputs {
-    let cards: Vec<Numbers> = (0..INPUTS).map(|_| curves::fitted(random, KNOTS, 0, 0)).collect();
+    let cards: Vec<Numbers> = (0..INPUTS).map(|_| card(random)).collect();
     let bytes: Vec<Vec<u8>> = cards.iter().map(Numbers::bytes).collect();
     let minute = |card: &Numbers, random: &mut Random| {
         let minutes = &card.sheet.minutes;

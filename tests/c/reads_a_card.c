@@ -1,5 +1,5 @@
-/* Fits document 01's Table 3 through the C header, writes its card, checks it, reads it back and takes readings off it; then a
-   log's mean and a log with too few good bytes, a sheet with two holes mended and put back, and a book of two rooms with a
+/* Fits document 01's Table 3 through the C header, without ends and then between free ones, and writes its card each time; checks the
+   free one, reads it back and takes readings off it; then a log's mean and a log with too few good bytes, a sheet with two holes mended and put back, and a book of two rooms with a
    reading off the card that it holds for one of them. What it prints is held against reads_a_card.expected. */
 
 #include <stdio.h>
@@ -19,16 +19,33 @@ int main(void)
     int32_t read_slopes[KAIHVETO_MOST_KNOTS], read_curvatures[KAIHVETO_MOST_KNOTS];
 
     kaihveto_fit_answer fit = kaihveto_fit(minutes, KNOTS, ordinates, KNOTS, slopes, KNOTS, curvatures, KNOTS);
-    printf("fit: %u at %u\n", fit.number, fit.place);
-
+    printf("fit without ends: %u at %u\n", fit.number, fit.place);
+    for (int i = 0; i < KNOTS; i++)
+        printf("%u %d %d %d\n", (unsigned)minutes[i], ordinates[i], slopes[i], curvatures[i]);
     kaihveto_write_answer written = kaihveto_write(minutes, KNOTS, ordinates, KNOTS, slopes, KNOTS, curvatures, KNOTS,
                                                    KAIHVETO_FREE, KAIHVETO_FREE, card, sizeof card);
+    printf("write with the codes of free ends: %u at %u, %u bytes\n", written.number, written.place, written.bytes);
+    written = kaihveto_write(minutes, KNOTS, ordinates, KNOTS, slopes, KNOTS, curvatures, KNOTS, KAIHVETO_DEFAULT_LEFT,
+                             KAIHVETO_DEFAULT_RIGHT, card, sizeof card);
+    printf("write with the fit's own: %u at %u, %u bytes\n", written.number, written.place, written.bytes);
+    kaihveto_card_answer checked = kaihveto_check(card, sizeof card);
+    printf("check: %u at %u, %u knots, ends %u and %u\n", checked.number, checked.place, checked.knots, checked.left,
+           checked.right);
+    kaihveto_refit_answer anew = kaihveto_refit(card, sizeof card, slopes, KNOTS, curvatures, KNOTS);
+    printf("fitted anew: %u at %u, %u changed\n", anew.number, anew.place, anew.changed);
+
+    fit = kaihveto_fit_ends(minutes, KNOTS, ordinates, KNOTS, slopes, KNOTS, curvatures, KNOTS, KAIHVETO_FREE, 0.0, 0.0,
+                            KAIHVETO_FREE, 0.0, 0.0);
+    printf("fit between free ends: %u at %u\n", fit.number, fit.place);
+
+    written = kaihveto_write(minutes, KNOTS, ordinates, KNOTS, slopes, KNOTS, curvatures, KNOTS, KAIHVETO_FREE, KAIHVETO_FREE,
+                             card, sizeof card);
     printf("write: %u at %u, %u bytes:", written.number, written.place, written.bytes);
     for (int i = 0; i < 26; i++)
         printf(" %02X", card[i]);
     printf("\n");
 
-    kaihveto_card_answer checked = kaihveto_check(card, sizeof card);
+    checked = kaihveto_check(card, sizeof card);
     printf("check: %u at %u, %u knots, ends %u and %u\n", checked.number, checked.place, checked.knots, checked.left,
            checked.right);
 

@@ -107,7 +107,7 @@ int main(void) {
     good &= line("refit", refit);
     good &= line("mend", mend);
     good &= kaihveto_fit(minutes, 3, ordinates, 3, slopes, 3, curvatures, 3).number == 0;
-    good &= kaihveto_write(minutes, 3, ordinates, 3, slopes, 3, curvatures, 3, KAIHVETO_FREE, KAIHVETO_FREE, short_card, sizeof short_card).number == 0;
+    good &= kaihveto_write(minutes, 3, ordinates, 3, slopes, 3, curvatures, 3, KAIHVETO_DEFAULT_LEFT, KAIHVETO_DEFAULT_RIGHT, short_card, sizeof short_card).number == 0;
     for (uint16_t room = 1; room <= ROOMS; room++)
         good &= kaihveto_book_put(book, sizeof book, room, card, sizeof card).number == 0;
     good &= line("book_find", book_find);

@@ -16,12 +16,13 @@ use Rattle.card.specs.Answers.{own, read-off}
 use Rattle.table.specs.Promise.{table-verdict, Tables}
 use Rattle.book.specs.Lookup.{look-up, part}
 use Rattle.exact_fit.proofs.Solution.{one-exact}
-use Rattle.demands.specs.Calls.{A-fit, A-fit-between, without-ends, between-ends, buffer, A-check, checked-bytes, read-bytes, places, reading-bytes, minute, A-table, table-bytes, from, lists-for, lists-for′, first-minute, log, A-book-find, the-book, the-room, the-part, A-book-put, put-book, put-book′, put-room, put-card}
-use Rattle.demands.specs.Demands.{Fit-says, Room-for, Off, Demand-1, Demand-2, Demand-3, Demands}
+use Rattle.demands.specs.Calls.{A-fit, A-fit-between, without-ends, between-ends, A-write, written-card, buffer, A-check, checked-bytes, A-read, read-bytes, places, places′, reading-bytes, minute, A-table, table-bytes, from, lists-for, lists-for′, first-minute, log, A-book-find, the-book, the-room, the-part, A-book-put, put-book, put-book′, put-room, put-card}
+use Rattle.demands.specs.Demands.{Fit-says, Accepts-as, Room-for, front, written-bytes, Off, Demand-1, Demand-2, Demand-3, Demands}
 use Rattle.fit.proofs.Numbered.{codes-numbered}
 use Rattle.demands.proofs.Numbered.{accepts}
 use Rattle.demands.proofs.Answered.{mean-answers, fit-says, fit-spares, check-answers, read-answers, read-spares, write-answers, write-spares, reading-answers, table-answers, table-spares, refit-answers, refit-spares}
 use Rattle.demands.proofs.Given.{eliminates, mean-given}
+use Rattle.demands.proofs.FitToCard.{default-rests, default-is-written}
 use Rattle.demands.proofs.MendedSheet.{mend-answers, mend-spares, mend-eliminates, one-mended-solution}
 use Rattle.demands.proofs.Books.{find-answers, put-answers, put-spares, leaves-a-book, is-found, others-cards, others-found, part-is, part-passes, find-never, puts-never}
 use Rattle.demands.proofs.RoundTrip.{written-accepted, written-held, accepts-its-card, takes, reads-its-card, made-again}
@@ -96,19 +97,29 @@ found-as-before p f g same same′ room other =
     let v = finds f refl in
     (w .0 ∙ sym (v .0), w .1 ∙ sym (v .1), w .2 ∙ sym (v .2))
 
+-- what was written is read back
+read-back : (w : A-write) (r : A-read) → w .answer .number ≡ 0 → read-bytes r ≡ written-bytes w → Room-for (knots (written-card w)) (places r)
+    → Accepts-as (written-card w) (r .answer) × (front (r .answer .knots) (places′ r) (r .answer .left) (r .answer .right) ≡ written-card w)
+read-back w r zero same room =
+    let held = written-held (w .promised .0) (w .promised .1) zero same in
+    let taken = takes (r .promised) (written-accepted (w .promised .0) (w .promised .1) zero same) (subst (λ k. Room-for (knots k) (places r)) (sym held) room) in
+    (accepts-its-card (read-bytes r) held (r .promised .answer) taken, reads-its-card (r .promised) taken ∙ held)
+
 two : Demand-2
 two =
     record {
       fit = λ c zero. eliminates (without-ends c) (c .promised) (fits c .accepts zero);
       fit-between = λ c zero. eliminates (between-ends c) (c .promised) (fits-between c .accepts zero);
+      fit-rests = λ c zero. default-rests c (fits c .accepts zero);
+      fitted-is-written = λ c w zero same room. default-is-written c (fits c .accepts zero) w same room;
+      fitted-is-read = λ c w r zero same room read places-for.
+          let back = read-back w r (default-is-written c (fits c .accepts zero) w same room) read (subst (λ k. Room-for (knots k) (places r)) (sym same) places-for) in
+          (subst (λ k. Accepts-as k (r .answer)) same (back .0), back .1 ∙ same);
       mend = mend-eliminates;
       mean = λ c zero. mean-given (first-minute c) (log c) (c .promised .0) (c .promised .1) (mean-answers (first-minute c) (log c) (c .promised .0) .0 .accepts zero);
       written-is-checked = λ w c zero same.
           accepts-its-card (checked-bytes c) (written-held (w .promised .0) (w .promised .1) zero same) (c .promised .0) (written-accepted (w .promised .0) (w .promised .1) zero same);
-      written-is-read = λ w r zero same room.
-          let held = written-held (w .promised .0) (w .promised .1) zero same in
-          let taken = takes (r .promised) (written-accepted (w .promised .0) (w .promised .1) zero same) (subst (λ k. Room-for (knots k) (places r)) (sym held) room) in
-          (accepts-its-card (read-bytes r) held (r .promised .answer) taken, reads-its-card (r .promised) taken ∙ held);
+      written-is-read = read-back;
       checked-is-written = λ c r w zero same read-zero again long.
           made-again (checked-bytes c) (c .promised .1) (tested c zero)
           (again ∙ reads-its-card (r .promised) (accepts (read-answers (r .promised) .0) read-zero) ∙ ap card-of same) (w .promised .0) long;

@@ -15,7 +15,7 @@ use Rattle.rows.specs.declared.End.{End}
 use Rattle.rows.specs.declared.End.the-variants.{Free}
 use Rattle.ends.specs.Ends.{end-by}
 use Rattle.fit.specs.declared.Fitted.{Fitted}
-use Rattle.fit.specs.Fit.{fit-of}
+use Rattle.fit.specs.Fit.{fit-of, default-left, default-right}
 use Rattle.holes.specs.Hole.{mended}
 use Rattle.mend.specs.declared.Change.{Change}
 use Rattle.mend.specs.Order as Order
@@ -74,7 +74,7 @@ pub record Fitting : Type 0 where
   pub named : Verdict
   pub answer : Fitted
 
--- "A fit asked without ends takes free at both."
+-- "a fit without ends has slope 0 and curvature 0 given at the left, and stays free at the right" (document 02, order 6)
 abbrev pub without-ends : A-fit → Fitting
 without-ends c =
     let a = c .arguments in
@@ -85,11 +85,15 @@ without-ends c =
       curvatures = now (a .1 .1 .1 .0);
       slopes′ = now (c .exit .1 .1 .0);
       curvatures′ = now (c .exit .1 .1 .1 .0);
-      left = Free;
-      right = Free;
+      left = default-left;
+      right = default-right;
       named = accepted;
       answer = c .answer;
     }
+
+-- the card of what it leaves: its ends have the codes 1 and 0
+abbrev pub fitted-card : A-fit → Card
+fitted-card c = let f = without-ends c in lent (f .minutes) (f .ordinates) (f .slopes′) (f .curvatures′) 1 0
 
 abbrev pub between-ends : A-fit-between → Fitting
 between-ends c =

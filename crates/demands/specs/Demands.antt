@@ -16,6 +16,7 @@ use Rattle.curve.specs.Kind.{quintic, inner}
 use Rattle.curve.specs.Card.{latest, Card, knots, knot}
 use Rattle.curve.specs.Log.{count, sum, faults, middle}
 use Rattle.curve.specs.Log as Log
+use Rattle.curve.specs.Steps.{size as card-size}
 use Rattle.curve.specs.Orders.{write-order, reading-order}
 use Rattle.curve.specs.Exact.{Exact, Near}
 use Rattle.curve.specs.Demand.{Close, On-gap, numbers, Jump-within}
@@ -35,7 +36,7 @@ use Rattle.book.specs.Book.{Entry, book-bytes, size, book}
 use Rattle.book.specs.Lookup.{look-up}
 use Rattle.book_put.specs.Put as Put
 use Rattle.bookkeeping.specs.Card.{card-in}
-use Rattle.demands.specs.Calls.{A-mean, first-minute, log, A-fit, A-fit-between, Fitting, without-ends, between-ends, the-fit, A-write, written-card, buffer, buffer′, A-check, checked-bytes, A-read, read-bytes, places, places′, A-reading, reading-bytes, minute, three, A-table, table-bytes, from, lists-for, lists-for′, row, A-refit, refit-bytes, fresh-slopes, fresh-curvatures, fresh-slopes′, fresh-curvatures′, A-mend, sheet-minutes, sheet, sheet′, change-list, change-list′, of-the-mended, the-mending, A-book-find, the-book, the-room, the-part, A-book-put, put-book, put-book′, put-room, put-card}
+use Rattle.demands.specs.Calls.{A-mean, first-minute, log, A-fit, A-fit-between, Fitting, without-ends, fitted-card, between-ends, the-fit, A-write, written-card, buffer, buffer′, A-check, checked-bytes, A-read, read-bytes, places, places′, A-reading, reading-bytes, minute, three, A-table, table-bytes, from, lists-for, lists-for′, row, A-refit, refit-bytes, fresh-slopes, fresh-curvatures, fresh-slopes′, fresh-curvatures′, A-mend, sheet-minutes, sheet, sheet′, change-list, change-list′, of-the-mended, the-mending, A-book-find, the-book, the-room, the-part, A-book-put, put-book, put-book′, put-room, put-card}
 
 -- ---- 1. "Every input gets an answer: bad knots, logs, cards and minutes are refused by number and place, the numbers beside a refusal are zero, and lent memory stays untouched."
 
@@ -165,6 +166,13 @@ pub record Demand-2 : Type 0 where
   -- "The fit is exactly the elimination that the paper prescribes, each operation rounded once"
   pub fit : (c : A-fit) → c .answer .number ≡ 0 → Eliminates (without-ends c)
   pub fit-between : (c : A-fit-between) → c .answer .number ≡ 0 → Eliminates (between-ends c)
+  -- and without ends it starts at rest, with slope 0 and curvature 0 at the first knot: what it leaves, the writer accepts with the codes 1 and 0,
+  pub fit-rests : (c : A-fit) → c .answer .number ≡ 0 → (knot (fitted-card c) 0 .m ≡ pos 0) × (knot (fitted-card c) 0 .M ≡ pos 0)
+  pub fitted-is-written : (c : A-fit) (w : A-write) → c .answer .number ≡ 0 → written-card w ≡ fitted-card c → card-size (knots (fitted-card c)) ≤ length (buffer w) → w .answer .number ≡ 0
+  -- and what is written then is accepted with these codes, and read back
+  pub fitted-is-read : (c : A-fit) (w : A-write) (r : A-read) → c .answer .number ≡ 0 → written-card w ≡ fitted-card c → card-size (knots (fitted-card c)) ≤ length (buffer w)
+      → read-bytes r ≡ written-bytes w → Room-for (knots (fitted-card c)) (places r)
+      → Accepts-as (fitted-card c) (r .answer) × (front (r .answer .knots) (places′ r) (r .answer .left) (r .answer .right) ≡ fitted-card c)
   -- and so of a mended sheet
   pub mend : (c : A-mend) → c .answer .number ≡ 0 → (sheet′ c ≡ of-the-mended c .ordinates) × Eliminates (of-the-mended c)
   -- "logs give the stated mean": 50 × sum ÷ count over the good bytes, rounded to nearest, ties to even, with their count, at the log's middle, which is a minute that a fit takes;

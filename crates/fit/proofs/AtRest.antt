@@ -8,8 +8,8 @@ use mathlib.Core.List.{List, [], _∷_}
 use lib.Dec.{eqb, lit<}
 use lib.IntN.{ℤ, pos}
 use lib.ListN.{length, getD}
-use lib.Ieee.{Float, add, sub, mul, div, neg, ofBits, ne}
-use Rattle.answer.specs.Answer.{given, accepted}
+use lib.Ieee.{Float, add, sub, mul, div, neg, ofBits, ne, lt}
+use Rattle.answer.specs.Answer.{given, accepted, _then_, refuse}
 use Rattle.curve.specs.Card.{Card, knot}
 use Rattle.front.specs.Front.{listed}
 use Rattle.front.proofs.Listed.{getD-listed}
@@ -27,6 +27,7 @@ use Rattle.passes.specs.Sheet.{most, end-of, knot-between, is-last, right-gap, 
 use Rattle.passes.specs.Forward.{Run, going, stuck, landed, left-by, runTo, state-at}
 use Rattle.passes.specs.Back.{Back, back, stopped, pair-of, turned, settled, retreat, backTo, no-pair, pair-at}
 use Rattle.passes.specs.Passes.{returned, answered, back-from, passes}
+use Rattle.ends.specs.Ends.{ends}
 use Rattle.numbers.specs.Numbers.{slope-at, curvature-at}
 use Rattle.fit.specs.Fit.{default-left, default-right, solved, card-of, fit}
 use Rattle.fit.proofs.Card.{its-card}
@@ -121,3 +122,8 @@ starts-at-rest xs ys ms Ms e =
     let is = its-card xs ys default-left default-right ms Ms accepted e in
     let r = card-rests xs ys default-right in
     (ap (λ c. knot c 0 .m) is ∙ r .0, ap (λ c. knot c 0 .M) is ∙ r .1)
+
+-- zeros are no numbers that 7 refuses
+pub default-never-7 : (n : ℕ) → ends n default-left default-right ≡ accepted
+unfolding ends refuse _then_ ofBits lt neg
+default-never-7 n = refl

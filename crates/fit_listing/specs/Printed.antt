@@ -1,5 +1,5 @@
--- What the fitter prints for the bytes of its input: document 01, "Two programs". It "reads records", "and fits with free ends".
--- Document 02, order 4: the records may be logs, and "then the fit's" refusals come last.
+-- What the fitter prints for the bytes of its input: document 01, "Two programs". It "reads records" and fits them without naming ends: document 02, order 6.
+-- Order 4: the records may be logs, and "then the fit's" refusals come last.
 -- Assumes nothing.
 use Prim.Native.Nat.{ℕ}
 use mathlib.Core.Bool.{cond}

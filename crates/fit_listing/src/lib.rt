@@ -1,4 +1,4 @@
-// What the fitter prints of a sheet: the listing of its fit with free ends. Document 01, "Two programs", and document 02, order 4.
+// What the fitter prints of a sheet: the listing of its fit without ends. Document 01, "Two programs", and document 02, orders 4 and 6.
 use gather::Gathered;
 ghost use mathlib.Core.Path.{_≡_};
 ghost use Prim.Native.Nat.{_+_, _*_, _^_, _≤_, _<_};

@@ -32,7 +32,7 @@ pub extern "C" fn kaihveto_mean(first: u16, log: &[u8]) -> log::Mean
     log::mean_of(first, log)
 }
 
-// Slopes and curvatures of the curve through the knots, without naming ends: 3, 1, 2; per knot 4, 5, 6; 8; 9; 10.
+// Slopes and curvatures of the curve through the knots, without naming ends: at rest at the left, free at the right, so that the card's codes are 1 and 0. 3, 1, 2; per knot 4, 5, 6; 8; 9; 10.
 #[no_mangle]
 pub extern "C" fn kaihveto_fit(
     minutes: &[u16],

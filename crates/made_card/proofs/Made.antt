@@ -20,13 +20,15 @@ use Rattle.curve.specs.Steps.{size}
 use Rattle.curve.specs.Orders.{write-order}
 use Rattle.curve.proofs.Accepted.{good}
 use Rattle.knots.specs.Lent.{lent}
+use Rattle.rows.specs.declared.End.{End}
 use Rattle.rows.specs.declared.End.the-variants.{Free}
+use Rattle.rows.specs.Equations.{code}
 use Rattle.card_bytes.specs.Bytes.{quintic-head, bytes-of}
 use Rattle.card_bytes.specs.Held
 use Rattle.card_bytes.proofs.Sizes.{length-card}
 use Rattle.card.specs.Answers.{own}
 use Rattle.writer.specs.Promise.{written}
-use Rattle.fit.specs.Fit.{card-of, fit}
+use Rattle.fit.specs.Fit.{card-of, fit-between}
 use Rattle.fit.specs.Promise.{slopes-after, curvatures-after}
 use Rattle.fit.proofs.Card.{its-card, accepted-card}
 use Rattle.fit.proofs.Numbered.{fit-numbered}
@@ -53,11 +55,12 @@ unfolding refusing
 done-by true done words card e = (refl, refl)
 done-by false done words card e = absurd (omega arith)
 
--- f is a fit of these knots behind further checks; the lists hold its card where it gives one
-module _ (f : Answer Card) (numbers : Never 0 f) (xs : List ℕ) (ys : List ℤ) (ms Ms : ℕ) (is-fit : (c : Card) → f ≡ given c → fit xs ys ms Ms ≡ given c)
-    (held : Answer Card → Card) (holds : held (given (card-of xs ys Free Free)) ≡ card-of xs ys Free Free) (faults lines buffer : List ℕ) where
+-- f is a fit of these knots between these ends, behind further checks; the lists hold its card where it gives one
+module _ (f : Answer Card) (numbers : Never 0 f) (xs : List ℕ) (ys : List ℤ) (left right : End) (ms Ms : ℕ)
+    (is-fit : (c : Card) → f ≡ given c → fit-between xs ys ms Ms left right ≡ given c)
+    (held : Answer Card → Card) (holds : held (given (card-of xs ys left right)) ≡ card-of xs ys left right) (faults lines buffer : List ℕ) where
   abbrev c : Card
-  c = card-of xs ys Free Free
+  c = card-of xs ys left right
 
   abbrev its-reply : Answer Card → Reply
   its-reply g = reply-of (number g) (place g) (held g) faults lines buffer
@@ -72,13 +75,13 @@ module _ (f : Answer Card) (numbers : Never 0 f) (xs : List ℕ) (ys : List ℤ)
     unfolding reply-of
     gives =
         let g = says f numbers refl refl .accepts (eqb-true (number f) 0 (done-by _ _ _ _ e .0)) in
-        g .is ∙ ap given (its-card xs ys Free Free ms Ms accepted (is-fit (g .what) (g .is)))
+        g .is ∙ ap given (its-card xs ys left right ms Ms accepted (is-fit (g .what) (g .is)))
 
     module _ (room : size (quintic .most-knots) ≤ length buffer) where
       writes : write-order quintic c (length buffer) ≡ accepted
       writes =
-          let many = good quintic c (accepted-card xs ys Free Free ms Ms accepted (is-fit c gives)) .many in
-          fitted-is-written xs ys Free Free ms Ms accepted (is-fit c gives) (length buffer) (omega arith)
+          let many = good quintic c (accepted-card xs ys left right ms Ms accepted (is-fit c gives)) .many in
+          fitted-is-written xs ys left right ms Ms accepted (is-fit c gives) (length buffer) (omega arith)
 
       replies : its-reply f ≡ with-card
       unfolding reply-of number place listing-of card-of lent-after written
@@ -87,7 +90,7 @@ module _ (f : Answer Card) (numbers : Never 0 f) (xs : List ℕ) (ys : List ℤ)
       pub made-of : Minutes xs → Made f faults (its-reply f)
       unfolding card-of
       made-of typed =
-          let returned = fitted-is-read xs ys Free Free ms Ms accepted (is-fit c gives) typed in
+          let returned = fitted-is-read xs ys left right ms Ms accepted (is-fit c gives) typed in
           let bytes = ap made-bytes replies ∙ take-at (bytes-of quintic-head c) _ (size (knots c)) (length-card quintic-head c) in
           record {
             made = c;
@@ -135,24 +138,29 @@ module _ (mends : Bool) (s logs buffer : List ℕ) where
       let sound = done-by (eqb (sheet mends s .wrong) 0) (gathered-reply to-knots g on buffer) _ _ e .1 in
       sound ∙ done-by (eqb (g .number) 0) _ _ _ (ap (λ r. r .status) (sym sound) ∙ e) .1
 
-  fit-made : size (quintic .most-knots) ≤ length buffer → text-reply mends fit-reply s logs buffer .status ≡ 48 → Made (fit xs ys n n) faults (text-reply mends fit-reply s logs buffer)
-  unfolding card-of
-  fit-made room e =
-      let k = length zeros in
-      let is = knots-answered fit-reply e in
-      let m = made-of (fit xs ys k k) (fit-numbered xs ys Free Free k k given-never) xs ys k k (λ c g. g) (λ g. lent xs ys (slopes-after g zeros) (curvatures-after g zeros) 0 0) refl faults on buffer (ap (λ r. r .status) (sym is) ∙ e) room typed in
-      subst (λ k. Made (fit xs ys k k) faults (text-reply mends fit-reply s logs buffer)) as-many (subst (λ r. Made (fit xs ys k k) faults r) (sym is) m)
+  module _ (left right : End) where
+    abbrev its-fit : ℕ → Answer Card
+    its-fit k = fit-between xs ys k k left right
+
+    fit-made : size (quintic .most-knots) ≤ length buffer → text-reply mends (fit-reply left right) s logs buffer .status ≡ 48 → Made (its-fit n) faults (text-reply mends (fit-reply left right) s logs buffer)
+    unfolding card-of
+    fit-made room e =
+        let k = length zeros in
+        let is = knots-answered (fit-reply left right) e in
+        let m = made-of (its-fit k) (fit-numbered xs ys left right k k given-never) xs ys left right k k (λ c g. g) (λ g. lent xs ys (slopes-after g zeros) (curvatures-after g zeros) (code left) (code right)) refl faults on buffer (ap (λ r. r .status) (sym is) ∙ e) room typed in
+        subst (λ k. Made (its-fit k) faults (text-reply mends (fit-reply left right) s logs buffer)) as-many (subst (λ r. Made (its-fit k) faults r) (sym is) m)
 
   mend-made : size (quintic .most-knots) ≤ length buffer → text-reply mends mend-reply s logs buffer .status ≡ 48 → Made (mend xs ys n n places) faults (text-reply mends mend-reply s logs buffer)
   unfolding card-of mend
   mend-made room e =
       let k = length zeros in
       let is = knots-answered mend-reply e in
-      let m = made-of (mend xs ys k k places) (mend-numbered xs ys k k places) xs (mended xs ys) k k (λ c g. next-accepts _ _ g) (λ g. lent xs (ordinates-after g ys) (slopes-after g zeros) (curvatures-after g zeros) 0 0) refl faults on buffer (ap (λ r. r .status) (sym is) ∙ e) room typed in
+      let m = made-of (mend xs ys k k places) (mend-numbered xs ys k k places) xs (mended xs ys) Free Free k k (λ c g. next-accepts _ _ g) (λ g. lent xs (ordinates-after g ys) (slopes-after g zeros) (curvatures-after g zeros) 0 0) refl faults on buffer (ap (λ r. r .status) (sym is) ∙ e) room typed in
       subst (λ k. Made (mend xs ys k k places) faults (text-reply mends mend-reply s logs buffer)) as-many (subst (λ r. Made (mend xs ys k k places) faults r) (sym is) m)
 
-pub made-card : (s logs buffer : List ℕ) → size (quintic .most-knots) ≤ length buffer → reply s logs buffer .status ≡ 48 → Made (sheet-fit s logs) (sheet-faults false s logs) (reply s logs buffer)
-made-card s logs buffer = fit-made false s logs buffer
+pub made-card : (left right : End) (s logs buffer : List ℕ) → size (quintic .most-knots) ≤ length buffer → reply left right s logs buffer .status ≡ 48
+    → Made (sheet-fit left right s logs) (sheet-faults false s logs) (reply left right s logs buffer)
+made-card left right s logs buffer = fit-made false s logs buffer left right
 
 pub mended-card : (s logs buffer : List ℕ) → size (quintic .most-knots) ≤ length buffer → mending-reply s logs buffer .status ≡ 48 → Made (sheet-mend s logs) (sheet-faults true s logs) (mending-reply s logs buffer)
 mended-card s logs buffer = mend-made true s logs buffer

@@ -12,7 +12,8 @@ use Rattle.curve.specs.Steps.{size}
 use Rattle.card_bytes.specs.Bytes.{quintic-head, bytes-of}
 use Rattle.card_bytes.specs.Held.{card-of}
 use Rattle.card.specs.Answers.{own}
-use Rattle.fit.specs.Fit.{fit}
+use Rattle.rows.specs.declared.End.{End}
+use Rattle.fit.specs.Fit.{fit-between}
 use Rattle.mend.specs.Order.{mend}
 use Rattle.listing.specs.Text.{no-log, listing}
 use Rattle.text.specs.declared.Sheet.{Sheet}
@@ -26,11 +27,11 @@ use Rattle.reply.specs.Mending.{room}
 abbrev pub sheet-knots : (mends : Bool) → (text logs : List ℕ) → Gathered
 sheet-knots mends s logs = gathered (sheet mends s) logs
 
--- their fit between free ends, into as many places as there are knots
-abbrev pub sheet-fit : (text logs : List ℕ) → Answer Card
-sheet-fit s logs = let g = sheet-knots false s logs in let n = g .knots in fit (take n (g .minutes)) (take n (g .ordinates)) n n
+-- their fit between these ends, into as many places as there are knots
+abbrev pub sheet-fit : (left right : End) → (text logs : List ℕ) → Answer Card
+sheet-fit left right s logs = let g = sheet-knots false s logs in let n = g .knots in fit-between (take n (g .minutes)) (take n (g .ordinates)) n n left right
 
--- the same of a sheet with holes, mended
+-- the same of a sheet with holes, mended: between free ends
 abbrev pub sheet-mend : (text logs : List ℕ) → Answer Card
 sheet-mend s logs = let g = sheet-knots true s logs in let n = g .knots in mend (take n (g .minutes)) (take n (g .ordinates)) n n room
 

@@ -446,8 +446,8 @@ fit-by-kinds = fitting _ _ _ _ _
 pub fit-by-codes : Once fit-codes.Post × Lent fit-codes.Post (λ s. now (s .1 .1 .0)) × Lent fit-codes.Post (λ s. now (s .1 .1 .1 .0))
 fit-by-codes = fitting _ _ _ _ _
 
-pub fit-free : Once fit.Post × Lent fit.Post (λ s. now (s .1 .1 .0)) × Lent fit.Post (λ s. now (s .1 .1 .1 .0))
-fit-free = fitting _ _ _ _ _
+pub fit-without-ends : Once fit.Post × Lent fit.Post (λ s. now (s .1 .1 .0)) × Lent fit.Post (λ s. now (s .1 .1 .1 .0))
+fit-without-ends = fitting _ _ _ _ _
 
 -- here the second and the third
 pub fit-anew : Once refit.Post × Lent refit.Post (λ s. now (s .1 .0)) × Lent refit.Post (λ s. now (s .1 .1 .0))
@@ -541,10 +541,11 @@ mended-told = putting _ _ _ _
 pub line-told : Once reply-line.Post
 line-told = equation _ _
 
--- the buffers for what is said and for the card are the fourth and the fifth
-pub reply : Once reply-answer.Post × Lent reply-answer.Post (λ s. now (s .1 .1 .1 .0)) × Lent reply-answer.Post (λ s. now (s .1 .1 .1 .1 .0))
+-- the buffers for what is said and for the card are the sixth and the seventh
+pub reply : Once reply-answer.Post × Lent reply-answer.Post (λ s. now (s .1 .1 .1 .1 .1 .0)) × Lent reply-answer.Post (λ s. now (s .1 .1 .1 .1 .1 .1 .0))
 reply = answering _ _ _ _
 
+-- here the fourth and the fifth
 pub reply-mended : Once reply-mend.Post × Lent reply-mend.Post (λ s. now (s .1 .1 .1 .0)) × Lent reply-mend.Post (λ s. now (s .1 .1 .1 .1 .0))
 reply-mended = mending-text _ _ _ _ _ _
 

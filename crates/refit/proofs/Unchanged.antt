@@ -1,22 +1,26 @@
--- What an answer of no changed numbers says: the card's slopes and curvatures are those of its fresh fit. And a card as it is fitted with free ends is so answered.
+-- What an answer of no changed numbers says: the card's slopes and curvatures are those of its fresh fit. And a card as it is fitted with free ends, or without ends, is so answered.
 -- Assumes nothing.
 use Prim.Native.Nat.{ℕ}
 use native.Mathlib.Omega.{arith}
-use mathlib.Core.Path.{_≡_, ap, _∙_}
+use mathlib.Core.Path.{_≡_, refl, sym, ap, _∙_}
 use mathlib.Core.List.{List}
-use lib.IntN.{ℤ, ℤ-discrete}
-use lib.ListN.{length}
+use lib.IntN.{ℤ, pos, ℤ-discrete}
+use lib.Ieee.{Float, ofInt, ofBits, div}
+use lib.ListN.{length, getD}
 use Rattle.answer.specs.Answer.{given, _then_, refuse}
 use Rattle.curve.specs.Kind.{quintic}
-use Rattle.curve.specs.Card.{Card, knots}
+use Rattle.curve.specs.Card.{Card, knots, knot}
 use Rattle.curve.specs.Steps.{codes}
 use Rattle.rows.specs.declared.End.the-variants.{Free}
+use Rattle.rows.specs.Floats.{f0}
 use Rattle.ends.specs.Ends.{end-by}
-use Rattle.fit.specs.Fit.{fit-between}
+use Rattle.fit.specs.Fit.{fit-between, fit-codes, fit}
+use Rattle.fit.proofs.AtRest.{starts-at-rest}
 use Rattle.card_bytes.specs.Held.{card-of}
 use Rattle.refit.specs.declared.Refitted.{Refitted}
-use Rattle.refit.specs.Fresh.{fresh, refit}
+use Rattle.refit.specs.Fresh.{hundredths, fresh, refit}
 use Rattle.refit.specs.Promise.{changed, refitted, Refits}
+use Rattle.refit.proofs.Given.{fresh-is}
 use Rattle.refit.proofs.Places.{none-of-itself, none-is-same}
 
 -- two cards with the same slopes and curvatures
@@ -41,6 +45,11 @@ unchanged-is-the-fit {s} {d = d} refits e =
     let is = ap (λ r. r .changed) (refits .answer ∙ ap (refitted (card-of s)) e) in
     ((λ z. none-changed (card-of s) d (omega (arith, is))), λ same. is ∙ same-unchanged (card-of s) d same)
 
+-- a card with the numbers of its fresh fit
+fresh-is-unchanged : (c : Card) {d : Card} → fresh c ≡ given d → Same-numbers c d → refitted c (fresh c) ≡ record { number = 0; place = 0; knots = knots c; changed = 0 }
+unfolding refitted
+fresh-is-unchanged c {d} e same = ap (refitted c) e ∙ ap (λ k. record { number = 0; place = 0; knots = knots c; changed = k }) (same-unchanged c d same)
+
 -- ---- free ends
 
 module _ (c : Card) (left : c .left ≡ 0) (right : c .right ≡ 0) where
@@ -50,5 +59,27 @@ module _ (c : Card) (left : c .left ≡ 0) (right : c .right ≡ 0) where
 
   pub fitted-is-unchanged : {d : Card} → fit-between (c .minutes) (c .ordinates) (knots c) (knots c) Free Free ≡ given d → Same-numbers c d
       → refitted c (fresh c) ≡ record { number = 0; place = 0; knots = knots c; changed = 0 }
-  unfolding refitted
-  fitted-is-unchanged {d} e same = ap (refitted c) (free-is-fit-between ∙ e) ∙ ap (λ k. record { number = 0; place = 0; knots = knots c; changed = k }) (same-unchanged c d same)
+  fitted-is-unchanged e same = fresh-is-unchanged c (free-is-fit-between ∙ e) same
+
+-- ---- the fit without ends: the numbers that it gives at the left are whole on the card
+
+no-hundredths : hundredths (pos 0) ≡ f0
+unfolding ofInt ofBits div
+no-hundredths = refl
+
+module _ (c : Card) (left : c .left ≡ 1) (right : c .right ≡ 0) where
+  rest-by-codes : (a b : Float) → fit-codes (c .minutes) (c .ordinates) (knots c) (knots c) (c .left) f0 f0 (c .right) a b ≡ fit (c .minutes) (c .ordinates) (knots c) (knots c)
+  unfolding end-by codes quintic _then_ refuse
+  rest-by-codes a b = rw (left, right)
+
+  pub rest-is-fit : knot c 0 .m ≡ pos 0 → knot c 0 .M ≡ pos 0 → fresh c ≡ fit (c .minutes) (c .ordinates) (knots c) (knots c)
+  rest-is-fit m M = sym (fresh-is c refl refl refl (sym (ap hundredths m ∙ no-hundredths)) (sym (ap hundredths M ∙ no-hundredths)) refl refl) ∙ rest-by-codes _ _
+
+  pub default-is-unchanged : {d : Card} → fit (c .minutes) (c .ordinates) (knots c) (knots c) ≡ given d → Same-numbers c d
+      → refitted c (fresh c) ≡ record { number = 0; place = 0; knots = knots c; changed = 0 }
+  unfolding knot
+  default-is-unchanged e same =
+      let rests = starts-at-rest (c .minutes) (c .ordinates) (knots c) (knots c) e in
+      let m = ap (λ l. getD l 0 (pos 0)) (same .slopes) ∙ rests .0 in
+      let M = ap (λ l. getD l 0 (pos 0)) (same .curvatures) ∙ rests .1 in
+      fresh-is-unchanged c (rest-is-fit m M ∙ e) same

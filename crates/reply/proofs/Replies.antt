@@ -41,11 +41,12 @@ module _ (number place : ℕ) (c : Card) (faults lines card : List ℕ) where
   unfolding reply-of
   replies-done z = rw (eq-eqb number 0 z)
 
--- the fit's number and place, and its numbers where they were lent
-pub replies-fitted : {f : Answer Card} {ms Ms ms′ Ms′ : List ℤ} {r : Fitted} → Fits f ms Ms ms′ Ms′ r → (xs : List ℕ) (ys : List ℤ) (faults lines card : List ℕ)
-    → reply-of (r .number) (r .place) (lent xs ys ms′ Ms′ 0 0) faults lines card
-    ≡ reply-of (number f) (place f) (lent xs ys (slopes-after f ms) (curvatures-after f Ms) 0 0) faults lines card
-replies-fitted h xs ys faults lines card = rw (h .answer, h .slopes, h .curvatures)
+-- the fit's number and place, its numbers where they were lent, and the codes of its ends
+pub replies-fitted : {f : Answer Card} {ms Ms ms′ Ms′ : List ℤ} {r : Fitted} → Fits f ms Ms ms′ Ms′ r → {a b left right : ℕ} → a ≡ left → b ≡ right
+    → (xs : List ℕ) (ys : List ℤ) (faults lines card : List ℕ)
+    → reply-of (r .number) (r .place) (lent xs ys ms′ Ms′ a b) faults lines card
+    ≡ reply-of (number f) (place f) (lent xs ys (slopes-after f ms) (curvatures-after f Ms) left right) faults lines card
+replies-fitted h e k xs ys faults lines card = rw (h .answer, h .slopes, h .curvatures, e, k)
 
 -- the mending's, and its mended ordinates
 pub replies-mended : {f : Answer Card} {cs : List Change} {ys ms Ms ys′ ms′ Ms′ : List ℤ} {p : Plan} → Plans f cs ys ms Ms ys′ ms′ Ms′ p → (xs faults lines card : List ℕ)

@@ -16,7 +16,9 @@ use Rattle.curve.specs.Orders.{write-order}
 use Rattle.knots.specs.Lent.{lent}
 use Rattle.card_bytes.specs.Bytes.{quintic-head, bytes-of}
 use Rattle.writer.specs.Promise.{written}
-use Rattle.fit.specs.Fit.{fit}
+use Rattle.rows.specs.declared.End.{End}
+use Rattle.rows.specs.Equations.{code}
+use Rattle.fit.specs.Fit.{fit-between}
 use Rattle.fit.specs.Promise.{slopes-after, curvatures-after}
 use Rattle.decimal.specs.Put.{Put}
 use Rattle.listing.specs.Text.{listing}
@@ -66,11 +68,11 @@ reply-of number place c faults lines card = cond (eqb number 0) (listing-of c fa
 abbrev pub ToKnots : Type 0
 ToKnots = (xs : List ℕ) (ys ms Ms : List ℤ) (faults lines card : List ℕ) → Reply
 
--- the fit's; its ends are free
-abbrev pub fit-reply : ToKnots
-fit-reply xs ys ms Ms faults lines card =
-    let f = fit xs ys (length ms) (length Ms) in
-    reply-of (number f) (place f) (lent xs ys (slopes-after f ms) (curvatures-after f Ms) 0 0) faults lines card
+-- the fit's between these ends; the card has their codes
+abbrev pub fit-reply : (left right : End) → ToKnots
+fit-reply left right xs ys ms Ms faults lines card =
+    let f = fit-between xs ys (length ms) (length Ms) left right in
+    reply-of (number f) (place f) (lent xs ys (slopes-after f ms) (curvatures-after f Ms) (code left) (code right)) faults lines card
 
 -- to knots as they were gathered: what they are refused with, or what they are answered with
 unfoldable pub gathered-reply : ToKnots → Gathered → (lines card : List ℕ) → Reply
@@ -85,8 +87,8 @@ text-reply mends to-knots s logs card =
     let a = sheet mends s in
     cond (eqb (a .wrong) 0) (gathered-reply to-knots (gathered a logs) (a .lines) card) (refusing (wrong-line (a .wrong) (a .line) (blamed-word s (a .line))) card)
 
-abbrev pub reply : (text logs card : List ℕ) → Reply
-reply = text-reply false fit-reply
+abbrev pub reply : (left right : End) → (text logs card : List ℕ) → Reply
+reply left right = text-reply false (fit-reply left right)
 
 -- the reply was given: its words were put into a buffer, its card stands in another
 pub record Answers (p : Reply) (to to′ card′ : List ℕ) (r : Answered) : Type 0 where

@@ -2,6 +2,7 @@
 use gather::Gathered;
 use gather::Knot;
 use mend::Plan;
+use rows::End;
 use text::Sheet;
 ghost use mathlib.Core.Path.{_≡_};
 ghost use mathlib.Core.Bool.{true, false, cond};
@@ -169,11 +170,14 @@ fn told(
     }
 }
 
+// The card has the codes of the ends between which it was fitted.
 fn fit_lists(
     minutes: &[u16],
     ordinates: &[i16],
     slopes: &mut [i32],
     curvatures: &mut [i32],
+    left: End,
+    right: End,
     faults: &[u8],
     lines: [u32; Sheet::MOST],
     to: &mut [u8],
@@ -181,9 +185,9 @@ fn fit_lists(
 ) -> Answered
     requires { ⌜ (length (now ordinates) ≡ length (now minutes)) × (length (now slopes) ≡ length (now minutes)) × (length (now curvatures) ≡ length (now minutes)) ⌝ }
     requires { ⌜ (length (now minutes) ≤ 65) × (4096 ≤ length (now to)) ⌝ }
-    ensures { λ r. ⌜ Answers (fit-reply (now (minutes .entry)) (now (ordinates .entry)) (now (slopes .entry)) (now (curvatures .entry)) (now (faults .entry)) lines (now (card .entry))) (now (to .entry)) (now (to .exit)) (now (card .exit)) r ⌝ }
+    ensures { λ r. ⌜ Answers (fit-reply left right (now (minutes .entry)) (now (ordinates .entry)) (now (slopes .entry)) (now (curvatures .entry)) (now (faults .entry)) lines (now (card .entry))) (now (to .entry)) (now (to .exit)) (now (card .exit)) r ⌝ }
 {
-    let fitted = fit::fit(minutes, ordinates, slopes, curvatures);
+    let fitted = fit::fit_between(minutes, ordinates, slopes, curvatures, left, right);
     told(
         fitted.number,
         fitted.place,
@@ -191,8 +195,8 @@ fn fit_lists(
         ordinates,
         slopes,
         curvatures,
-        0,
-        0,
+        ends::code(left),
+        ends::code(right),
         faults,
         lines,
         to,
@@ -214,10 +218,18 @@ fn complain(text: &[u8], wrong: u32, line: u32, to: &mut [u8]) -> Answered
     }
 }
 
-// The knots of a sheet, with the logs that it names, and their fit, between free ends. The sheet is the text's.
-pub fn answer(text: &[u8], sheet: Sheet, logs: &[u8], to: &mut [u8], card: &mut [u8]) -> Answered
+// The knots of a sheet, with the logs that it names, and their fit between these ends. The sheet is the text's.
+pub fn answer(
+    text: &[u8],
+    sheet: Sheet,
+    logs: &[u8],
+    left: End,
+    right: End,
+    to: &mut [u8],
+    card: &mut [u8],
+) -> Answered
     requires { ⌜ (sheet ≡ sheet-of false (now text)) × (4096 ≤ length (now to)) ⌝ }
-    ensures { λ r. ⌜ Answers (reply (now (text .entry)) (now (logs .entry)) (now (card .entry))) (now (to .entry)) (now (to .exit)) (now (card .exit)) r ⌝ }
+    ensures { λ r. ⌜ Answers (reply left right (now (text .entry)) (now (logs .entry)) (now (card .entry))) (now (to .entry)) (now (to .exit)) (now (card .exit)) r ⌝ }
 {
     if sheet.wrong != 0 {
         return complain(text, sheet.wrong, sheet.line, to);
@@ -238,6 +250,8 @@ pub fn answer(text: &[u8], sheet: Sheet, logs: &[u8], to: &mut [u8], card: &mut 
         &ordinates[..n],
         &mut slopes[..n],
         &mut curvatures[..n],
+        left,
+        right,
         &faults[..n],
         lines,
         to,

@@ -1,4 +1,4 @@
-// What stands behind the command `kaihveto`: workbench fit SHEET [CARD], mend SHEET [CARD], list CARD, check CARD .., at CARD MINUTE .., table CARD [EVERY], points CARD, mean MINUTE LOG, why NUMBER, weights,
+// What stands behind the command `kaihveto`: workbench fit SHEET [CARD], free SHEET [CARD] (the fit between free ends), mend SHEET [CARD], list CARD, check CARD .., at CARD MINUTE .., table CARD [EVERY], points CARD, mean MINUTE LOG, why NUMBER, weights,
 // book new BOOK, book list BOOK, book find BOOK ROOM [CARD], book put BOOK ROOM CARD, save FILE. A CARD that is read may be BOOK:ROOM. Results go to standard output, complaints to standard error, and one byte to descriptor 3, since a program of Rattle has no exit status (`tell`). What is proved of the
 // lines is said in the crates that are called; here every function is proved safe and ending.
 mod arguments;
@@ -19,6 +19,9 @@ mod weights;
 fn run(command: &[u8], count: usize) -> u8 {
     if arguments::same(command, b"fit") {
         return sheets::fit(count);
+    }
+    if arguments::same(command, b"free") {
+        return sheets::fit_free(count);
     }
     if arguments::same(command, b"mend") {
         return sheets::mend(count);

@@ -1,11 +1,12 @@
 // The text of a sheet, with the logs that it names: fitted, or mended and then fitted, and listed, and its card made a file.
 use mend::Plan;
 use reply::Answered;
+use rows::End;
 use text::Sheet;
 
-// What is done with a sheet.
+// What is done with a sheet; `Fit` between which ends.
 enum Job {
-    Fit,
+    Fit(End, End),
     Mend,
 }
 
@@ -38,7 +39,7 @@ fn listed(asked: bool, card: &[u8], listing: &[u8]) -> u8 {
     crate::tell::print(listing)
 }
 
-fn fit_text(text: &[u8], file: &[u8], asked: bool, card: &[u8]) -> u8 {
+fn fit_text(text: &[u8], file: &[u8], asked: bool, card: &[u8], left: End, right: End) -> u8 {
     let sheet = Sheet::read(text, false);
     let mut logs = io::buffer();
     if !crate::slots::load(file, text, sheet, &mut logs) {
@@ -46,7 +47,7 @@ fn fit_text(text: &[u8], file: &[u8], asked: bool, card: &[u8]) -> u8 {
     }
     let mut said = io::buffer();
     let mut made = io::buffer();
-    let answered = reply::answer(text, sheet, &logs, &mut said, &mut made);
+    let answered = reply::answer(text, sheet, &logs, left, right, &mut said, &mut made);
     let length = answered.length;
     let status = saved(file, asked, card, answered, &said, &made);
     if status != crate::tell::DONE {
@@ -107,7 +108,7 @@ fn with_sheet(file: &[u8], asked: bool, card: &[u8], job: Job) -> u8 {
     }
     let n = io::count(got, &bytes);
     match job {
-        Job::Fit => fit_text(&bytes[..n], file, asked, card),
+        Job::Fit(left, right) => fit_text(&bytes[..n], file, asked, card, left, right),
         Job::Mend => mend_text(&bytes[..n], file, asked, card),
     }
 }
@@ -124,8 +125,13 @@ fn run(count: usize, job: Job) -> u8 {
     with_sheet(&file[..n], true, &card[..k], job)
 }
 
+// Without ends named: it starts at rest.
 pub(crate) fn fit(count: usize) -> u8 {
-    run(count, Job::Fit)
+    run(count, Job::Fit(fit::DEFAULT_LEFT, fit::DEFAULT_RIGHT))
+}
+
+pub(crate) fn fit_free(count: usize) -> u8 {
+    run(count, Job::Fit(End::Free, End::Free))
 }
 
 pub(crate) fn mend(count: usize) -> u8 {

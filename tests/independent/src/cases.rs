@@ -4,12 +4,23 @@
 use crate::random::Random;
 use crate::reference::*;
 
+/// The lister's, of its card of free ends.
 const TABLE_3: &str = "\
 0 500 -819200 147200
 8 0 230400 83200
 16 500 0 -108800
 24 0 -230400 83200
 32 500 819200 147200
+ok 5
+";
+
+/// The fitter's, of its knots: worked out in exact fractions too (`exact`).
+const AT_REST_LISTED: &str = "\
+0 500 0 0
+8 0 -146579 160836
+16 500 174611 -140373
+24 0 -333611 89891
+32 500 960634 185744
 ok 5
 ";
 
@@ -44,8 +55,33 @@ fn log(first: u16, bytes: &[u8]) -> Vec<u8> {
 #[test]
 fn table_3_is_listed() {
     let records: Vec<Vec<u8>> = (0..5).map(|i| knot(MINUTES[i], ORDINATES[i])).collect();
-    assert_eq!(fitter(&records.concat()), TABLE_3);
+    assert_eq!(fitter(&records.concat()), AT_REST_LISTED);
     assert_eq!(lister(&table_3_card()), TABLE_3);
+}
+
+/// What a fit gives between these ends, and the bytes of its card with these codes.
+fn card_of(left: End, codes: [u16; 2]) -> Vec<u8> {
+    let (mut slopes, mut curvatures) = ([0; 5], [0; 5]);
+    assert_eq!(fit_ends(&MINUTES, &ORDINATES, &mut slopes, &mut curvatures, left, FREE), Ok(()));
+    card_bytes(&MINUTES, &ORDINATES, &slopes, &curvatures, codes[0], codes[1])
+}
+
+#[test]
+fn a_fits_card_has_the_codes_of_its_ends() {
+    assert_eq!(card_of(FREE, [0, 0]), table_3_card());
+    assert_eq!(lister(&card_of(AT_REST, [1, 0])), AT_REST_LISTED);
+    assert_eq!(lister(&card_of(AT_REST, [0, 0])), "refused 10 at 0\n");
+    // With a code that asks for less a free card is sound too.
+    assert_eq!(lister(&card_of(FREE, [1, 0])), TABLE_3);
+}
+
+/// Two sheets of which one kind of left end is accepted and the other is not.
+#[test]
+fn one_sheet_for_each_kind_of_left_end() {
+    let (minutes, ordinates) = ([0, 1, 4, 5], [53, 189, 30, 41]);
+    assert_eq!([FREE, AT_REST].map(|left| fit_number(&minutes, &ordinates, left, FREE)), [(0, 0), (9, 3)]);
+    let (minutes, ordinates) = ([0, 2, 4, 7, 11, 15], [-85, 164, 11, -28, 86, 112]);
+    assert_eq!([FREE, AT_REST].map(|left| fit_number(&minutes, &ordinates, left, FREE)), [(9, 0), (0, 0)]);
 }
 
 /// Its knots as means: a byte of 10 is 5 %. The logs have 1, 0 and 2 faults.
@@ -53,17 +89,17 @@ fn table_3_is_listed() {
 fn table_3_is_listed_from_logs_with_their_faults() {
     let records = [knot(0, 500), log(7, &[0, 255]), log(13, &[10; 6]), knot(24, 0), log(30, &[10, 255, 255, 10])];
     let listed = "\
-0 500 -819200 147200
-8 0 230400 83200 1
-16 500 0 -108800 0
-24 0 -230400 83200
-32 500 819200 147200 2
+0 500 0 0
+8 0 -146579 160836 1
+16 500 174611 -140373 0
+24 0 -333611 89891
+32 500 960634 185744 2
 ok 5
 ";
     assert_eq!(fitter(&records.concat()), listed);
-    // P8 on a line that rises by 25 hundredths a minute.
-    let records = [knot(59, 5000), log(60, &[100, 255, 102]), knot(63, 5100)];
-    assert_eq!(fitter(&records.concat()), "59 5000 102400 0\n61 5050 102400 0 1\n63 5100 102400 0\nok 3\n");
+    // P8 on a level line, on which every curve rests.
+    let records = [knot(59, 5050), log(60, &[100, 255, 102]), knot(63, 5050)];
+    assert_eq!(fitter(&records.concat()), "59 5050 0 0\n61 5050 0 0 1\n63 5050 0 0\nok 3\n");
 }
 
 #[test]

@@ -4,7 +4,7 @@ use crate::books;
 use crate::compare::{self, Tally};
 use crate::curves::{self, Numbers, Sheet, Turn};
 use crate::random::Random;
-use crate::reference::{card_size, End, FREE, HOLE, LONGEST_LOG, MOST_KNOTS, ORDINATE_LIMIT, WIDEST_GAP};
+use crate::reference::{self, card_size, End, FREE, HOLE, LONGEST_LOG, MOST_KNOTS, ORDINATE_LIMIT, WIDEST_GAP};
 use std::collections::BTreeMap;
 use std::time::Instant;
 
@@ -101,8 +101,32 @@ fn fits(tally: &mut Tally, random: &mut Random) {
                 compare::fit_ends(tally, &sheet.minutes, &sheet.ordinates, [n, n], ends[0], ends[1]);
                 if turn < 40 {
                     compare::fit(tally, &sheet.minutes, &sheet.ordinates, [n, n]);
+                    compare::fit_ends(tally, &sheet.minutes, &sheet.ordinates, [n, n], FREE, FREE);
                 }
             }
+        }
+    }
+}
+
+/// Fits without ends and their cards: with the codes of their ends, with others, and fitted anew, which changes nothing.
+fn at_rest(tally: &mut Tally, random: &mut Random) {
+    for n in 3..=MOST_KNOTS {
+        for _ in 0..40 {
+            let sheet = curves::sheet(random, n);
+            let (mut slopes, mut curvatures) = (vec![0; n], vec![0; n]);
+            compare::fit(tally, &sheet.minutes, &sheet.ordinates, [n, n]);
+            if reference::fit(&sheet.minutes, &sheet.ordinates, &mut slopes, &mut curvatures).is_err() {
+                continue;
+            }
+            assert_eq!((slopes[0], curvatures[0]), (0, 0), "{sheet:?}");
+            for codes in [[1, 0], [0, 0], [2, 0], [0, 1]] {
+                compare::write(tally, &sheet.minutes, &sheet.ordinates, &slopes, &curvatures, codes, card_size(n));
+            }
+            let numbers = Numbers { sheet, slopes, curvatures, left: 1, right: 0 };
+            let anew = reference::refit(&numbers.bytes(), &mut vec![0; n], &mut vec![0; n]);
+            assert_eq!(anew, Ok(reference::Refitted { knots: n as u32, changed: 0 }), "{numbers:?}");
+            card(tally, random, &numbers.bytes());
+            compare::refit(tally, &numbers.bytes(), [n; 2]);
         }
     }
 }
@@ -391,7 +415,7 @@ fn writers(tally: &mut Tally, random: &mut Random) {
         for _ in 0..300 {
             let mut sheet = curves::sheet(random, n);
             let (mut slopes, mut curvatures) = (vec![0; n], vec![0; n]);
-            let _ = crate::reference::fit(&sheet.minutes, &sheet.ordinates, &mut slopes, &mut curvatures);
+            let _ = reference::fit_ends(&sheet.minutes, &sheet.ordinates, &mut slopes, &mut curvatures, FREE, FREE);
             for _ in 0..random.below(3) {
                 curves::spoil(random, &mut sheet);
             }
@@ -667,7 +691,7 @@ type Group = fn(&mut Tally, &mut Random);
 
 /// Runs every group, prints the numbers, and says whether nothing differed and nothing was left unmet.
 pub fn all() -> bool {
-    let groups: [(&str, Group); 17] = [
+    let groups: [(&str, Group); 18] = [
         ("logs", logs),
         ("fits", fits),
         ("given numbers", given),
@@ -685,6 +709,7 @@ pub fn all() -> bool {
         ("books about their limits", books::limits_of_books),
         ("books in use", books::books_in_use),
         ("gaps of the weight sheet", on_the_weight_sheet),
+        ("cards that start at rest", at_rest),
     ];
     let mut tally = Tally::default();
     for (seed, (name, group)) in groups.iter().enumerate() {

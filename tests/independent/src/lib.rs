@@ -10,6 +10,8 @@ mod cases;
 #[cfg(linked)]
 pub mod compare;
 pub mod curves;
+#[cfg(test)]
+mod exact;
 #[cfg(all(linked, not(target_arch = "x86_64")))]
 mod far;
 pub mod fitter;

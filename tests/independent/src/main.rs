@@ -1,9 +1,11 @@
 //! Without words: compares the library with the reference on many inputs, and ends with 1 where they differ or do not meet a number of
 //! refusal that they should.
 //! `vectors DIR`: runs the reference alone on the vectors of the two programs.
+//! `list PROGRAM`: prints what the reference lists for standard input, as the lister or the fitter.
 //! `cases FILE`: prints the lines of the program `cases`, which are the reference's answers to a file of questions.
 //! `fitter FILE N COMMAND ..`: runs the fitter by that command on a file of cases and on N random inputs, beside the reference.
 
+use std::io::Read;
 use std::path::Path;
 use std::process::ExitCode;
 
@@ -23,6 +25,20 @@ fn vectors(folder: &str) -> bool {
         eprintln!("{folder}: {error}");
         false
     })
+}
+
+fn list(listing: fn(&[u8]) -> String) -> bool {
+    let mut bytes = Vec::new();
+    match std::io::stdin().read_to_end(&mut bytes) {
+        Ok(_) => {
+            print!("{}", listing(&bytes));
+            true
+        }
+        Err(error) => {
+            eprintln!("standard input: {error}");
+            false
+        }
+    }
 }
 
 fn cases(file: &str) -> bool {
@@ -57,10 +73,12 @@ fn main() -> ExitCode {
     let good = match words[..] {
         [] => compare(),
         ["vectors", folder] => vectors(folder),
+        ["list", "lister"] => list(independent::reference::lister),
+        ["list", "fitter"] => list(independent::reference::fitter),
         ["cases", file] => cases(file),
         ["fitter", file, random, ref command @ ..] if !command.is_empty() => fitter(file, random, command),
         _ => {
-            eprintln!("usage: independent [vectors DIR | cases FILE | fitter FILE N COMMAND ..]");
+            eprintln!("usage: independent [vectors DIR | list lister | list fitter | cases FILE | fitter FILE N COMMAND ..]");
             return ExitCode::from(2);
         }
     };

@@ -23,13 +23,13 @@ room c = rw (c .gathered .ensures) (roomy _ _ (few (c .before .before .before .b
 returns : tie.Need-returns
 returns c =
     let s = c .before .before .before .before .before .before .before .before .before .before in
-    replies-wrong false fit-reply (now (s .args .text)) _ (s .pre .0) (now (s .args .card)) (c .before .before .before .before .if1 .taken) (c .before .before .complain .ensures)
+    replies-wrong false (fit-reply (s .args .left) (s .args .right)) (now (s .args .text)) _ (s .pre .0) (now (s .args .card)) (c .before .before .before .before .if1 .taken) (c .before .before .complain .ensures)
 
 returns-2 : tie.Need-returns-2
 returns-2 c =
     let s = c .before .before .before .before .before .before .before .before .before .before .before .before .before .before in
     let z : s .args .sheet .wrong ≡ 0 = omega (arith, c .before .before .before .before .before .before .before .before .if1 .left) in
-    replies-log false fit-reply (now (s .args .text)) _ (s .pre .0) (now (s .args .card)) z (c .before .before .before .before .before .before .gathered .ensures) (c .before .before .before .before .if2 .taken) (c .before .before .refuse-knots .ensures)
+    replies-log false (fit-reply (s .args .left) (s .args .right)) (now (s .args .text)) _ (s .pre .0) (now (s .args .card)) z (c .before .before .before .before .before .before .gathered .ensures) (c .before .before .before .before .if2 .taken) (c .before .before .refuse-knots .ensures)
 
 array-share-prefix-minutes : tie.Need-array-share-prefix-minutes
 array-share-prefix-minutes c = minutes-hold (room (c .before .before .before .before .before))
@@ -72,7 +72,7 @@ returns-3 c =
     let s = g .before .before .before .before .before .before .before .before in
     let z : s .args .sheet .wrong ≡ 0 = omega (arith, g .before .before .if1 .left) in
     let accepted : g .gathered .result .number ≡ 0 = omega (arith, c .before .before .before .before .before .before .before .before .before .before .before .before .before .before .before .before .before .if2 .left) in
-    answers-as (replies-knots false fit-reply (now (s .args .text)) _ (s .pre .0) (now (s .args .card)) z (g .gathered .ensures) accepted) (c .before .before .before .before .before .before .fit-lists .ensures)
+    answers-as (replies-knots false (fit-reply (s .args .left) (s .args .right)) (now (s .args .text)) _ (s .pre .0) (now (s .args .card)) z (g .gathered .ensures) accepted) (c .before .before .before .before .before .before .fit-lists .ensures)
 
 pub answer-spec : {M : Type 1} → statement M
 answer-spec =

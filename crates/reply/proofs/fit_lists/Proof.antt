@@ -1,4 +1,4 @@
--- `reply::fit_lists` meets its contract, by what the fit answers. Assumes nothing.
+-- `reply::fit_lists` meets its contract, by what the fit answers and by the codes of its ends. Assumes nothing.
 use denote.Ref.{now}
 use borrow.Author.Needs.{needs}
 use Rattle.reply.proofs.Replies.{answers-as, replies-fitted}
@@ -7,13 +7,19 @@ use Rattle.reply.proofs.fit_lists.Tie as tie
 
 returns : tie.Need-returns
 returns c =
-    let a = c .before .before .before .before .before .before .before .before .before .before .before .before .before .before .before .before .before .before .args in
-    answers-as (replies-fitted (c .before .before .before .before .before .before .before .before .before .before .before .fit .ensures) (now (a .minutes)) (now (a .ordinates)) (now (a .faults)) (a .lines) (now (a .card))) (c .before .before .before .before .told .ensures)
+    let coded = c .before .before .before .before .before .before .before in
+    let fitted = coded .before .before .before .before .before .before in
+    let a = fitted .before .before .before .before .before .before .before .args in
+    answers-as
+    (replies-fitted (fitted .fit-between .ensures) (coded .before .code .ensures) (coded .code2 .ensures) (now (a .minutes)) (now (a .ordinates)) (now (a .faults)) (a .lines) (now (a .card)))
+    (c .before .before .before .before .told .ensures)
 
 pub fit-lists-spec : {M : Type 1} → statement M
 fit-lists-spec =
     tie.close
     (tie.spec
+    (λ c κs. search needs)
+    (λ c κs. search needs)
     (λ c κs. search needs)
     (λ c κs. search needs)
     (λ c. search needs)
