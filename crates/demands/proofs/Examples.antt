@@ -1,5 +1,5 @@
--- The page is of something: Table 3's card is accepted by the writer, its bytes by the card test, the reader, a reading and a table, and it is within half a unit of an exact solution; it is put into a
--- book and found there.
+-- The page is of something: Table 3's knots are accepted by the fit without ends; its card is accepted by the writer, its bytes by the card test, the reader, a reading and a table, and it is within
+-- half a unit of an exact solution; it is put into a book and found there.
 -- Assumes nothing.
 use mathlib.Core.Path.{_≡_, refl, sym, ap, subst}
 use mathlib.Core.List.{List, [], _∷_, _++_}
@@ -11,7 +11,7 @@ use lib.IntN.{ℤ}
 use lib.ListN.{length, getD, length-append}
 use base.Fml.{Lft, GName}
 use denote.Ref.{RefT}
-use Rattle.answer.specs.Answer.{Answer, refused, given, accepted}
+use Rattle.answer.specs.Answer.{Answer, refused, given, accepted, number}
 use Rattle.answer.specs.Lent.{lent-after}
 use Rattle.answer.proofs.Steps.{not-both, first-accepts, next-accepts, both-accept, accepts-refuse}
 use Rattle.front.specs.Front.{listed}
@@ -32,6 +32,9 @@ use Rattle.card.specs.Promise.{Lists, into}
 use Rattle.table.specs.Table.{table-order, tabled}
 use Rattle.table.specs.Promise.{Columns, table-verdict, rows}
 use Rattle.writer.specs.Promise.{written}
+use Rattle.fit.specs.Fit.{fit}
+use Rattle.fit.specs.Promise.{answered, slopes-after, curvatures-after}
+use Rattle.fit.proofs.Table3.{fits-are}
 use Rattle.bytes.specs.Numbers.{le, Bytes}
 use Rattle.bytes.proofs.Numbers.{length-le, bytes-append, le-bytes}
 use Rattle.record.specs.Record.{header}
@@ -42,7 +45,7 @@ use Rattle.book_put.specs.Put.{entry, put-in, after}
 use Rattle.book_put.proofs.Answers.{fits}
 use Rattle.bookkeeping.proofs.Inverse.{no-room}
 use Rattle.kaihveto.specs.Types.{Minutes, Room}
-use Rattle.demands.specs.Calls.{A-write, A-check, A-read, A-reading, A-table, A-book-put, A-book-find}
+use Rattle.demands.specs.Calls.{A-fit, A-write, A-check, A-read, A-reading, A-table, A-book-put, A-book-find}
 use Rattle.demands.specs.Demands.{Is-given, Room-for, On-the-card, Half-a-unit}
 use Rattle.demands.proofs.RoundTrip.{takes}
 use Rattle.demands.proofs.Written.{card-bytes}
@@ -134,6 +137,24 @@ puts =
 module _ (lifetime : Lft) (pointer : ℕ × ℕ) (name : GName) where
   abbrev list : {A : Type 0} → List A → RefT (List A)
   list l = record { ptr = pointer; name = name; now = l }
+
+  -- into lists of just the knots' places
+  abbrev pub fit-call : A-fit
+  fit-call =
+      let f = fit (p1 .minutes) (p1 .ordinates) (length (p1 .slopes)) (length (p1 .curvatures)) in
+      let xs = list (p1 .minutes) in
+      let ys = list (p1 .ordinates) in
+      record {
+        lifetimes = (lifetime, (lifetime, (lifetime, (lifetime, tt))));
+        arguments = (xs, (ys, (list (p1 .slopes), (list (p1 .curvatures), tt))));
+        answer = answered f;
+        exit = (xs, (ys, (list (slopes-after f (p1 .slopes)), (list (curvatures-after f (p1 .curvatures)), tt))));
+        promised = record { answer = refl; slopes = refl; curvatures = refl };
+      }
+
+  pub fit-accepts : fit-call .answer .number ≡ 0
+  unfolding p1 table-3 number
+  fit-accepts = ap (λ v. answered v .number) (fits-are .1)
 
   abbrev pub check-call : A-check
   check-call = record { lifetimes = (lifetime, tt); arguments = (list bytes, tt); answer = checked (own bytes) (card-of bytes); exit = (list bytes, tt); promised = (refl, card-bytes quintic-head p1) }

@@ -1,10 +1,10 @@
 -- The curve of a fit without ends starts at rest: its card has slope 0 and curvature 0 at the first knot, whatever the knots are. Assumes nothing.
-use Prim.Native.Nat.{ℕ, zero, suc, _-_, _<_}
+use Prim.Native.Nat.{ℕ, zero, suc, _-_}
 use native.Mathlib.Nat.{sub-zero}
 use native.Mathlib.Omega.{arith}
-use mathlib.Core.Path.{_≡_, refl, sym, ap, _∙_}
+use mathlib.Core.Path.{_≡_, refl, ap, _∙_}
 use mathlib.Core.Bool.{Bool, true, false, cond}
-use mathlib.Core.List.{List, [], _∷_}
+use mathlib.Core.List.{List}
 use lib.Dec.{eqb, lit<}
 use lib.IntN.{ℤ, pos}
 use lib.ListN.{length, getD}
@@ -36,7 +36,7 @@ use Rattle.fit.proofs.Nought.{Nought, neg-nought, mul-nought, add-nough
 abbrev Noughts : Pair → Type 0
 Noughts v = Nought (v .s) × Nought (v .c)
 
--- what the elimination leaves of a first knot that is given zeros: P and the first and second row of H
+-- what the elimination leaves of a first knot that is given zeros: P and H are noughts, whatever its gap
 pub record Resting (x : State) : Type 0 where
   pub p : Noughts (x .p)
   pub h11 : Nought (x .h .e11)
@@ -55,9 +55,9 @@ none : Noughts zero-pair
 unfolding ofBits
 none = (refl, refl)
 
-less : (x y z s c : Float) → Nought x → Nought y → Nought z → Nought (x ⊖ (y ⊗ s ⊕ z ⊗ c))
+less-nought : (x y z s c : Float) → Nought x → Nought y → Nought z → Nought (x ⊖ (y ⊗ s ⊕ z ⊗ c))
 unfolding sub
-less x y z s c p h k = add-nought x _ p (neg-nought (y ⊗ s ⊕ z ⊗ c) (add-nought (y ⊗ s) (z ⊗ c) (mul-nought y s h) (mul-nought z c k)))
+less-nought x y z s c p h k = add-nought x _ p (neg-nought (y ⊗ s ⊕ z ⊗ c) (add-nought (y ⊗ s) (z ⊗ c) (mul-nought y s h) (mul-nought z c k)))
 
 turned-rests : {x : State} → Resting x → (next : Pair) (j : ℕ) → Noughts (turned backward x next j)
 unfolding turned
@@ -65,7 +65,7 @@ turned-rests {x} r next j = go (eqb j 0)
   where
     go : (b : Bool) → Noughts (cond b (x .p) (backward x next))
     go true = r .p
-    go false = (less _ _ _ (next .s) (next .c) (r .p .0) (r .h11) (r .h12), less _ _ _ (next .s) (next .c) (r .p .1) (r .h21) (r .h22))
+    go false = (less-nought _ _ _ (next .s) (next .c) (r .p .0) (r .h11) (r .h12), less-nought _ _ _ (next .s) (next .c) (r .p .1) (r .h21) (r .h22))
 
 settled-rests : (finite : Bool) (k : ℕ) (v : Pair) → Noughts v → Noughts (pair-of (settled finite k v))
 settled-rests true k v h = h

@@ -1,14 +1,13 @@
 -- Zeros in binary64: what a zero times anything, sums of such products and their negatives come to, in card units too. Assumes nothing.
-use Prim.Native.Nat.{ℕ, _*_, _/_, _%_, _<_, compare}
+use Prim.Native.Nat.{ℕ, _*_, _/_, _<_}
 use native.Mathlib.Nat.{zero-lt-suc, zero-mul, mul-one, mul-pos}
 use mathlib.Core.Path.{_≡_, refl, sym, ap}
 use mathlib.Core.Bool.{Bool, true, false, _&&_, cond, Bool·beq}
 use lib.Dec.{eqb}
 use lib.IntN.{pos}
-use lib.Ieee as Ieee
 use lib.Ieee.{Float, nan, inf, fin, binary64, up, down, size, odd, units, round, neg, sum, add, mul}
 use lib.Ieee.Fits.{down-pos}
-use lib.Ieee.Nearest.{closest-same, div-same}
+use lib.Ieee.Nearest.{closest, closest-same, div-same}
 use Rattle.whole.specs.Whole.{nearest}
 use Rattle.units.specs.Units.{signed, units-of}
 use Rattle.rows.specs.Floats.{_⊕_, _⊗_}
@@ -19,12 +18,14 @@ Nought nan = Unit {0}
 Nought (inf s) = Unit {0}
 Nought (fin s m e) = m ≡ 0
 
+none-of : (d : ℕ) → 0 < d → closest 0 d ≡ 0
+none-of d h = closest-same 0 d 0 1 h (zero-lt-suc 0) (sym (zero-mul d))
+
 round-nought : (s : Bool) (d : ℕ) → 0 < d → Nought (round binary64 s 0 d)
 unfolding round size units odd
 round-nought s d h =
     let whole : 0 / d ≡ 0 = div-same 0 d 0 1 h (zero-lt-suc 0) (sym (zero-mul d)) in
-    let near : Ieee.nearest (0 / d) (compare (0 % d * 2) d) ≡ 0 = closest-same 0 d 0 1 h (zero-lt-suc 0) (sym (zero-mul d)) in
-    rw (whole, mul-one d, near) refl
+    rw (whole, mul-one d, none-of d h) refl
 
 either-nought : (b : Bool) (x y : Float) → Nought x → Nought y → Nought (cond b x y)
 either-nought true x y h k = h
@@ -68,5 +69,5 @@ units-nought (inf s) h = refl
 units-nought (fin s m e) h = rw (h, zero-mul (up e)) (go s)
   where
     go : (b : Bool) → nearest (signed b 0) (down e) ≡ pos 0
-    go true = ap pos (closest-same 0 (down e) 0 1 (down-pos e) (zero-lt-suc 0) (sym (zero-mul (down e))))
-    go false = ap pos (closest-same 0 (down e) 0 1 (down-pos e) (zero-lt-suc 0) (sym (zero-mul (down e))))
+    go true = ap pos (none-of (down e) (down-pos e))
+    go false = ap pos (none-of (down e) (down-pos e))
