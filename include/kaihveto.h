@@ -262,9 +262,9 @@ kaihveto_table_answer kaihveto_table(const uint8_t *card, size_t card_length, ui
 /* Fits a card's own knots anew, into two lists of one length: on acceptance the first n places of each, n being the card's
    number of knots, and no other. The ends have the card's codes, and a number that a code gives is the card's own there. The
    answer has n, and how many of the card's 2n slopes and curvatures are not the fit's. A card of kaihveto_fit, or one that was
-   fitted with free ends, that was not changed since has none. A given number is taken as it stands on the card: where it was changed, only the others
-   can show it; and where the fit was given one between two card units, some others may differ by a few units though nothing
-   was changed.
+   fitted with free ends, has none as long as it was not changed. A given number is taken as it stands on the card: where it was
+   changed, only the others can show it; and where the fit was given one between two card units, some others may differ by a few
+   units though nothing was changed.
    Refusals, in this order: 3, those of kaihveto_check, 26, and then the fit's own, 8, 9, 10. */
 typedef struct {
     uint32_t number;
@@ -279,11 +279,11 @@ kaihveto_refit_answer kaihveto_refit(const uint8_t *card, size_t card_length,
 
 /* Mends a sheet with holes and fits it: each ordinate that is KAIHVETO_HOLE becomes the value, at its minute, of the straight line
    between the nearest knots left and right that are no holes, rounded to nearest, ties to even; then slopes and curvatures are
-   fitted as by kaihveto_fit_ends, with KAIHVETO_FREE at both ends, and so are the codes of its card. Minutes, ordinates, slopes and curvatures have one length, the number of knots;
-   the list of changes has a place for each hole, and may have more. On acceptance the holes among the ordinates are filled, every
-   place of slopes and curvatures is written, and the first places of the list of changes tell each hole's place, its old number
-   and its new one, in rising order; nothing else is written. The answer has how many they are. Who writes the old numbers back to
-   their places has the sheet as it came.
+   fitted as by kaihveto_fit_ends with KAIHVETO_FREE at both ends, which are the codes of the card too. Minutes, ordinates, slopes
+   and curvatures have one length, the number of knots; the list of changes has a place for each hole, and may have more. On
+   acceptance the holes among the ordinates are filled, every place of slopes and curvatures is written, and the first places of
+   the list of changes tell each hole's place, its old number and its new one, in rising order; nothing else is written. The answer
+   has how many they are. Who writes the old numbers back to their places has the sheet as it came.
    Refusals, in this order: 3, 1, 2; 4, 5, 6 knot by knot, 6 not for a hole; 17, 18; then the fit's own, 8, 9, 10. */
 typedef struct {
     uint32_t place;
