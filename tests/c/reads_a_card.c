@@ -1,6 +1,7 @@
-/* Fits document 01's Table 3 through the C header, without ends and then between free ones, and writes its card each time; checks the
-   free one, reads it back and takes readings off it; then a log's mean and a log with too few good bytes, a sheet with two holes mended and put back, and a book of two rooms with a
-   reading off the card that it holds for one of them. What it prints is held against reads_a_card.expected. */
+/* Fits document 01's Table 3 through the C header, without ends and then between free ones, and writes its card each time; checks
+   the free one, reads it back and takes readings off it; then a log's mean and a log with too few good bytes, a sheet with two
+   holes mended and put back, and a book of two rooms with a reading off the card that it holds for one of them. What it prints is
+   held against reads_a_card.expected. */
 
 #include <stdio.h>
 

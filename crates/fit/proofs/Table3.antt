@@ -40,7 +40,7 @@ at-rest left =
       right = 0;
     }
 
--- with the code of a free end on the left it is no sound card
+-- both fits; and with the code of a free end on the left the second is no sound card
 pub fits-are :
     (fit-between (p1 .minutes) (p1 .ordinates) 5 5 Free Free ≡ given p1) × (fit (p1 .minutes) (p1 .ordinates) 5 5 ≡ given (at-rest 1))
     × (numbers-sound quintic (at-rest 0) ≡ refused 10 0)

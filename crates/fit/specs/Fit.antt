@@ -65,5 +65,6 @@ module _ (xs : List ℕ) (ys : List ℤ) (ms Ms : ℕ) where
   abbrev pub fit-codes : (left : ℕ) → (slope curvature : Float) → (right : ℕ) → (slope′ curvature′ : Float) → Answer Card
   fit-codes left slope curvature right slope′ curvature′ = fit-of xs ys (end-by left slope curvature) (end-by right slope′ curvature′) ms Ms (codes quintic left right)
 
+  -- asked without ends
   abbrev pub fit : Answer Card
   fit = fit-between default-left default-right
