@@ -2,9 +2,11 @@
 -- Assumes nothing.
 use mathlib.Core.Path.{_≡_, refl, sym, subst}
 use mathlib.Core.Bool.{Bool, true, false, _&&_, _||_}
+use mathlib.Core.List.{List}
 use Prim.Native.Nat.{ℕ, zero, suc, _+_, _-_, _≤_, _<_}
 use native.Mathlib.Omega.{arith}
 use native.Mathlib.Nat.{le-refl}
+use native.Mathlib.Numerals.{add-one}
 use native.Mathlib.Decide.{ℕ-discrete}
 use lib.Dec.{T, leb, ltb, eqb}
 use lib.ListN.{length, getD}
@@ -106,20 +108,34 @@ module _ (K : Kind) (c : Card) where
       stand : (i : ℕ) → i < knots c → stands K (c .minutes) (c .ordinates) i ≡ accepted
       stand i l = both-accept (accepts-refuse 4 i (low i l)) (both-accept (accepts-refuse 5 i (le-ltb _ _ (close i l))) (accepts-refuse 6 i (g .y-in i l)))
 
-module _ {K : Kind} {c : Card} (g : Good K c) where
-  -- the minutes rise, not only from neighbour to neighbour
-  pub rising : (i j : ℕ) → i < j → j < knots c → knot c i .x < knot c j .x
-  rising i zero l h = absurd (omega arith)
-  rising i (suc j) l h = elim (ℕ-discrete i j) [ yes s ↦ subst (λ k. knot c k .x < knot c (suc j) .x) (sym s) next | no s ↦ omega (arith, rising i j (omega arith) (omega arith), next) ]
-    where
-      less : suc j - 1 ≡ j
-      less = omega arith
+-- minutes that rise from neighbour to neighbour
+abbrev pub Rises : List ℕ → Type 0
+Rises xs = (i : ℕ) → i + 1 < length xs → getD xs i 0 < getD xs (i + 1) 0
 
-      next : knot c j .x < knot c (suc j) .x
-      next = subst (λ k. knot c k .x < knot c (suc j) .x) less (g .rises (suc j) (omega arith) h)
+module _ (xs : List ℕ) (r : Rises xs) where
+  -- rise from each to any later one
+  pub rise : (i j : ℕ) → i < j → j < length xs → getD xs i 0 < getD xs j 0
+  rise i zero l h = absurd (omega arith)
+  rise i (suc j) l h = elim (ℕ-discrete i j) [ yes s ↦ subst (λ k. getD xs k 0 < getD xs (suc j) 0) (sym s) next | no s ↦ omega (arith, rise i j (omega arith) (omega arith), next) ]
+    where
+      next : getD xs j 0 < getD xs (suc j) 0
+      next = subst (λ k. getD xs j 0 < getD xs k 0) (add-one j) (r j (omega arith))
+
+  pub never-fall : (i j : ℕ) → i ≤ j → j < length xs → getD xs i 0 ≤ getD xs j 0
+  never-fall i j l h = elim (ℕ-discrete i j) [ yes s ↦ rw s (le-refl (getD xs j 0)) | no s ↦ omega (arith, rise i j (omega arith) h) ]
+
+module _ {K : Kind} {c : Card} (g : Good K c) where
+  minutes-rise : Rises (c .minutes)
+  unfolding knots knot
+  minutes-rise i l = let same : i + 1 - 1 ≡ i = omega arith in subst (λ k. getD (c .minutes) k 0 < getD (c .minutes) (i + 1) 0) same (g .rises (i + 1) (omega arith) l)
+
+  pub rising : (i j : ℕ) → i < j → j < knots c → knot c i .x < knot c j .x
+  unfolding knots knot
+  rising = rise (c .minutes) minutes-rise
 
   pub not-falling : (i j : ℕ) → i ≤ j → j < knots c → knot c i .x ≤ knot c j .x
-  not-falling i j l h = elim (ℕ-discrete i j) [ yes s ↦ rw s (le-refl (knot c j .x)) | no s ↦ omega (arith, rising i j (omega arith) h) ]
+  unfolding knots knot
+  not-falling = never-fall (c .minutes) minutes-rise
 
   pub gap-wide : (i : ℕ) → i + 1 < knots c → 0 < gap (knot c i) (knot c (i + 1))
   unfolding gap

@@ -17,7 +17,7 @@ use Rattle.curve.specs.Card.{Card, knots, knot, gap}
 use Rattle.curve.specs.Steps.{outside}
 use Rattle.curve.specs.Reading.{last-at, gap-of, reads}
 use Rattle.curve.proofs.Knots.{reads-left, reads-right}
-use Rattle.curve.proofs.Accepted.{Good, rising, not-falling, gap-wide, or-false}
+use Rattle.curve.proofs.Accepted.{Good, Rises, never-fall, rising, not-falling, gap-wide, or-false}
 
 -- i is the gap of the minute: an inner knot belongs to the gap on its right, the last knot to the last gap
 pub record IsGap (xs : List ℕ) (minute i : ℕ) : Type 0 where
@@ -61,15 +61,14 @@ pub card-in : (xs : List ℕ) (minute : ℕ) → getD xs 0 0 ≤ minute → minu
 unfolding outside refuse
 card-in xs minute from to = rw (le-ltb _ _ from, le-ltb _ _ to)
 
-module _ {K : Kind} {c : Card} (g : Good K c) {minute : ℕ} where
-  -- only one gap is the minute's
-  pub gap-once : {i j : ℕ} → IsGap (c .minutes) minute i → IsGap (c .minutes) minute j → i ≡ j
-  unfolding knots knot
-  gap-once {i} {j} a b = omega (arith, not-less a b, not-less b a)
-    where
-      not-less : {i j : ℕ} → IsGap (c .minutes) minute i → IsGap (c .minutes) minute j → i < j → ⊥
-      not-less {i} {j} a b l = omega (arith, a .before (omega (arith, b .inside)), not-falling g (i + 1) j (omega arith) (omega (arith, b .inside)), b .from)
+-- only one gap is the minute's
+pub gap-once : {xs : List ℕ} {minute i j : ℕ} → Rises xs → IsGap xs minute i → IsGap xs minute j → i ≡ j
+gap-once {xs} {minute} r a b = omega (arith, not-less a b, not-less b a)
+  where
+    not-less : {i j : ℕ} → IsGap xs minute i → IsGap xs minute j → i < j → ⊥
+    not-less {i} {j} a b l = omega (arith, a .before (omega (arith, b .inside)), never-fall xs r (i + 1) j (omega arith) (omega (arith, b .inside)), b .from)
 
+module _ {K : Kind} {c : Card} (g : Good K c) {minute : ℕ} where
   -- a gap that has the minute at one of its ends reads as the minute's own
   pub reads-alike : (i j : ℕ) → IsGap (c .minutes) minute i → j + 1 < knots c → knot c j .x ≤ minute → minute ≤ knot c (j + 1) .x →
       reads (knot c j) (knot c (j + 1)) (minute - knot c j .x) ≡ reads (knot c i) (knot c (i + 1)) (minute - knot c i .x)

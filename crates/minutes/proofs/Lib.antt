@@ -1,1 +1,1 @@
-pub mod Search
+pub mod Halving

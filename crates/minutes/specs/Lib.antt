@@ -1,1 +1,2 @@
 pub mod Gaps
+pub mod Search

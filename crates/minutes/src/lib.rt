@@ -1,12 +1,12 @@
-// What the minutes of a card say by themselves: a knot's neighbours, the gaps beside it, and the gap of a minute. Document 01, "The curve and its card" and "The exact curve".
+// What the minutes of a card say by themselves: a knot's neighbours, the gaps beside it, and the gap of a minute with the looks that it takes. Document 01, "The curve and its card" and "The exact curve"; document 02, order 7.
 ghost use mathlib.Core.Path.{_≡_};
-ghost use Prim.Native.Nat.{_+_, _-_, _≤_, _<_, min};
+ghost use Prim.Native.Nat.{_+_, _-_, _<_, _^_, min};
 ghost use lib.ListN.{length};
 ghost use Rattle.answer.specs.Judge.{verdict-of};
 ghost use Rattle.curve.specs.Card.{back};
-ghost use Rattle.curve.specs.Reading.{gap-of};
 ghost use Rattle.curve.specs.Steps.{outside};
 ghost use Rattle.minutes.specs.Gaps.{left-gap, right-gap, wider-gap};
+ghost use Rattle.minutes.specs.Search.{look, found};
 
 // ---- a knot and its neighbours
 
@@ -86,17 +86,49 @@ pub fn outside(xs: &[u16], minute: u16) -> answer::Judged
     answer::refuse(11, 0, xs[last] < minute)
 }
 
-// The gap of a minute, by the place of its left knot.
-pub fn gap_of(xs: &[u16], minute: u16) -> usize
-    requires { ⌜ 2 ≤ length (now xs) ⌝ }
-    ensures { λ r. ⌜ r ≡ gap-of (now (xs .entry)) minute ⌝ }
+// ---- the gap of a minute, by halving: document 02, order 7
+
+// What is left to look through: so many gaps, from a first one on; and the looks so far.
+pub struct Left {
+    pub first: usize,
+    pub gaps: usize,
+    pub looks: u32,
+}
+
+// One look. It sees what is left, the minute, and the minute of the knot that begins the middle gap; and it alone counts.
+fn look(left: Left, minute: u16, knot: u16) -> Left
+    requires { ⌜ (left .first + left .gaps < 2 ^ 64) × (left .looks + 1 < 2 ^ 32) ⌝ }
+    ensures { λ r. ⌜ r ≡ look left minute knot ⌝ }
 {
-    let mut i = xs.len() - 2;
-    while 0 < i {
-        if xs[i] <= minute {
-            return i;
-        }
-        i -= 1;
+    let lower = left.gaps / 2;
+    let looks = left.looks + 1;
+    if minute < knot {
+        return Left {
+            first: left.first,
+            gaps: lower,
+            looks,
+        };
     }
-    0
+    Left {
+        first: left.first + lower,
+        gaps: left.gaps - lower,
+        looks,
+    }
+}
+
+// The one gap that the looks leave, by the place of its left knot; and how many they were.
+pub fn find(xs: &[u16], minute: u16) -> Left
+    requires { ⌜ (0 < length (now xs)) × (length (now xs) < 2 ^ 32) ⌝ }
+    ensures { λ r. ⌜ r ≡ found (now (xs .entry)) minute ⌝ }
+{
+    let mut left = Left {
+        first: 0,
+        gaps: xs.len() - 1,
+        looks: 0,
+    };
+    while 1 < left.gaps {
+        let middle = left.first + left.gaps / 2;
+        left = look(left, minute, xs[middle]);
+    }
+    left
 }
