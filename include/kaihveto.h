@@ -67,6 +67,10 @@ extern "C" {
    input gets another answer. MINOR rises where something is added and all else stays. The archive itself does not carry it:
    take both from one state of the sources.
 
+   5.0: the answer of kaihveto_reading has the looks for the minute's gap, behind the curvature, and is 4 bytes longer for it: a
+   program that calls it is to be compiled anew, since one that was compiled with a header before has too little room for the
+   answer. Value, slope and curvature are as they were, refusals too.
+
    4.0: kaihveto_fit starts at rest, where before both its ends were free: the same knots get another card, and some that were
    accepted are refused with 9, or the other way round. A program that writes what it has fitted passes the codes of that fit,
    KAIHVETO_DEFAULT_LEFT and KAIHVETO_DEFAULT_RIGHT: with KAIHVETO_FREE at the left, as before, the card is as a rule refused with
@@ -81,7 +85,7 @@ extern "C" {
 
    2.0: kaihveto_mean answers the minute in the log's middle, where 1.2 answered the log's first, and has the refusal 19. Cards
    that were made with the first minutes lead the rooms by half a log, and are to be made anew. */
-#define KAIHVETO_VERSION_MAJOR 4
+#define KAIHVETO_VERSION_MAJOR 5
 #define KAIHVETO_VERSION_MINOR 0
 
 /* The end codes. */
@@ -232,6 +236,11 @@ kaihveto_card_answer kaihveto_read(const uint8_t *card, size_t card_length,
 
 /* Reads the curve off a card's bytes at a minute: value in hundredths, slope and curvature in card units, each the exact
    curve's rounded to nearest, ties to even. The whole card is tested each time.
+
+   And how many looks the minute's gap took. While more than one gap is left, of k, counted from 0, one look is at the minute of
+   the knot that begins gap k/2, rounded down: if the minute asked for is before it, the gaps before that knot are left, else the
+   others. So 3 knots take 1 look, 64 knots 5 or 6, and n knots at most the smallest p for which 2 to the p is not below n - 1.
+   A look at knot i is at the two bytes of a card from 14 + 16 * i on. The test of the card is not counted.
    Refusals, in this order: those of kaihveto_check, 11. Nothing is written. */
 typedef struct {
     uint32_t number;
@@ -239,6 +248,7 @@ typedef struct {
     int32_t value;
     int32_t slope;
     int32_t curvature;
+    uint32_t looks;
 } kaihveto_reading_answer;
 
 kaihveto_reading_answer kaihveto_reading(const uint8_t *card, size_t card_length, uint16_t minute);

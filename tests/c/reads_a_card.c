@@ -57,12 +57,12 @@ int main(void)
         printf("%u %d %d %d\n", (unsigned)read_minutes[i], read_ordinates[i], read_slopes[i], read_curvatures[i]);
 
     kaihveto_reading_answer reading = kaihveto_reading(card, sizeof card, 4);
-    printf("minute 4: %u at %u, value %d, slope %d, curvature %d\n", reading.number, reading.place, reading.value,
-           reading.slope, reading.curvature);
+    printf("minute 4: %u at %u, value %d, slope %d, curvature %d, looks %u\n", reading.number, reading.place, reading.value,
+           reading.slope, reading.curvature, reading.looks);
 
     reading = kaihveto_reading(card, sizeof card, 33);
-    printf("minute 33: %u at %u, value %d, slope %d, curvature %d\n", reading.number, reading.place, reading.value,
-           reading.slope, reading.curvature);
+    printf("minute 33: %u at %u, value %d, slope %d, curvature %d, looks %u\n", reading.number, reading.place, reading.value,
+           reading.slope, reading.curvature, reading.looks);
 
     checked = kaihveto_check(card, sizeof card - 1);
     printf("a byte short: %u at %u, %u knots, ends %u and %u\n", checked.number, checked.place, checked.knots, checked.left,
@@ -110,8 +110,8 @@ int main(void)
     kaihveto_book_find_answer found = kaihveto_book_find(book, sizeof book, 9);
     printf("room 9: %u at %u, %u bytes from %u on\n", found.number, found.place, found.length, found.start);
     reading = kaihveto_reading(book + found.start, found.length, 4);
-    printf("room 9, minute 4: %u at %u, value %d, slope %d, curvature %d\n", reading.number, reading.place, reading.value,
-           reading.slope, reading.curvature);
+    printf("room 9, minute 4: %u at %u, value %d, slope %d, curvature %d, looks %u\n", reading.number, reading.place,
+           reading.value, reading.slope, reading.curvature, reading.looks);
     found = kaihveto_book_find(book, sizeof book, 4);
     printf("room 4: %u at %u, %u bytes from %u on\n", found.number, found.place, found.length, found.start);
     put = kaihveto_book_put(book, put.bytes, 4, line, sizeof line);

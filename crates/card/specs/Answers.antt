@@ -5,12 +5,11 @@ use mathlib.Core.List.{List}
 use Rattle.answer.specs.Answer.{refused, given, Verdict}
 use Rattle.curve.specs.Kind.{quintic}
 use Rattle.curve.specs.Card.{Card, knots}
-use Rattle.curve.specs.Orders.{reading-order}
 use Rattle.card_bytes.specs.Bytes.{quintic-head}
 use Rattle.card_bytes.specs.Held.{card-of}
 use Rattle.card_bytes.specs.Records.{card-verdict}
 use Rattle.lists.specs.declared.CardReading.{CardReading}
-use Rattle.lists.specs.Lists.{answered}
+use Rattle.lists.specs.Lists.{answer-at}
 use Rattle.card.specs.declared.Checked.{Checked}
 
 -- the card's own verdict
@@ -24,4 +23,4 @@ checked (given u) c = record { number = 0; place = 0; knots = knots c; left = c 
 
 -- "Reading: the card's, then 11."
 unfoldable pub read-off : List ℕ → ℕ → CardReading
-read-off s minute = answered (reading-order (own s) (card-of s) minute)
+read-off s minute = answer-at (own s) (card-of s) minute

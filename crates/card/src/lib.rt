@@ -7,8 +7,8 @@ ghost use mathlib.Core.Path.{_≡_};
 ghost use Rattle.answer.specs.Answer.{accepted};
 ghost use Rattle.answer.specs.Judge.{verdict-of};
 ghost use Rattle.curve.specs.Kind.{quintic};
-ghost use Rattle.curve.specs.Orders.{verdict, lists-order, reading-order};
-ghost use Rattle.lists.specs.Lists.{answered};
+ghost use Rattle.curve.specs.Orders.{verdict, lists-order};
+ghost use Rattle.lists.specs.Lists.{answer-at};
 ghost use Rattle.card_bytes.specs.Held.{card-of};
 ghost use Rattle.decode.specs.Decoded.{decoded, Full};
 ghost use Rattle.card.specs.Answers.{own, checked, read-off};
@@ -116,7 +116,7 @@ pub fn read(
 fn read_off(card: Card, minute: u16) -> lists::CardReading
     requires { ⌜ Full card ⌝ }
     requires { ⌜ verdict quintic (decoded card) ≡ accepted ⌝ }
-    ensures { λ r. ⌜ r ≡ answered (reading-order accepted (decoded card) minute) ⌝ }
+    ensures { λ r. ⌜ r ≡ answer-at accepted (decoded card) minute ⌝ }
 {
     let n = card.knots;
     let minutes = card.minutes;

@@ -18,6 +18,7 @@ fn reading(minute: u16, card: &[u8]) {
     print::named(b"; value", reading.value);
     print::named(b"; slope", reading.slope);
     print::named(b"; curvature", reading.curvature);
+    print::counted(b"; looks", reading.looks);
 }
 
 fn checked(word: &[u8], checked: card::Checked) {

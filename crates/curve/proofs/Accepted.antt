@@ -125,7 +125,7 @@ module _ (xs : List ℕ) (r : Rises xs) where
   never-fall i j l h = elim (ℕ-discrete i j) [ yes s ↦ rw s (le-refl (getD xs j 0)) | no s ↦ omega (arith, rise i j (omega arith) h) ]
 
 module _ {K : Kind} {c : Card} (g : Good K c) where
-  minutes-rise : Rises (c .minutes)
+  pub minutes-rise : Rises (c .minutes)
   unfolding knots knot
   minutes-rise i l = let same : i + 1 - 1 ≡ i = omega arith in subst (λ k. getD (c .minutes) k 0 < getD (c .minutes) (i + 1) 0) same (g .rises (i + 1) (omega arith) l)
 

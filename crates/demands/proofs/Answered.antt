@@ -23,6 +23,7 @@ use Rattle.curve.specs.Orders.{write-order, reading-order}
 use Rattle.curve.proofs.Accepted.{Good, good}
 use Rattle.log.specs.declared.Mean.{Mean}
 use Rattle.log.specs.Answers as Log-answers
+use Rattle.minutes.specs.Search.{found}
 use Rattle.lists.specs.declared.CardReading.{CardReading}
 use Rattle.lists.specs.Lists as Lists-answers
 use Rattle.fit.specs.Promise.{Fits, slopes-after, curvatures-after}
@@ -196,18 +197,18 @@ module _ {c : Card} {entry exit : List ℕ} {r : Written} (writes : Writes c ent
 -- ---- a reading
 
 abbrev pub No-reading : CardReading → Type 0
-No-reading r = r .number ≢ 0 → (r .value ≡ pos 0) × (r .slope ≡ pos 0) × (r .curvature ≡ pos 0)
+No-reading r = r .number ≢ 0 → (r .value ≡ pos 0) × (r .slope ≡ pos 0) × (r .curvature ≡ pos 0) × (r .looks ≡ 0)
 
-reading-fields : (v : Answer Reading) → (let r = Lists-answers.answered v in (r .number ≡ number v) × (r .place ≡ place v) × No-reading r)
+reading-fields : (looks : ℕ) (v : Answer Reading) → (let r = Lists-answers.answered looks v in (r .number ≡ number v) × (r .place ≡ place v) × No-reading r)
 unfolding number place
-reading-fields (refused n p) = (refl, refl, λ h. (refl, refl, refl))
-reading-fields (given m) = (refl, refl, λ h. absurd (h refl))
+reading-fields looks (refused n p) = (refl, refl, λ h. (refl, refl, refl, refl))
+reading-fields looks (given m) = (refl, refl, λ h. absurd (h refl))
 
 pub reading-answers : (s : List ℕ) (minute : ℕ) {r : CardReading} → r ≡ read-off s minute → Says (reading-order (own s) (card-of s) minute) (r .number) (r .place) × No-reading r
-unfolding read-off
+unfolding read-off Lists-answers.answer-at
 reading-answers s minute e =
     let v = reading-order (own s) (card-of s) minute in
-    let f = reading-fields v in
+    let f = reading-fields (found (card-of s .minutes) minute .looks) v in
     subst (λ r. Says v (r .number) (r .place) × No-reading r) (sym e) (says v (reading-numbered s minute) (f .0) (f .1), f .2)
 
 -- ---- a table

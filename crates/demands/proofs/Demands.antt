@@ -26,7 +26,7 @@ use Rattle.demands.proofs.FitToCard.{default-rests, default-is-written}
 use Rattle.demands.proofs.MendedSheet.{mend-answers, mend-spares, mend-eliminates, one-mended-solution}
 use Rattle.demands.proofs.Books.{find-answers, put-answers, put-spares, leaves-a-book, is-found, others-cards, others-found, part-is, part-passes, find-never, puts-never}
 use Rattle.demands.proofs.RoundTrip.{written-accepted, written-held, accepts-its-card, takes, reads-its-card, made-again}
-use Rattle.demands.proofs.Off.{stands-on-a-gap, of-card, close, at-knots, on-its-card, in-table, table-counted, written-never, checked-never, read-never, read-off-never, table-never}
+use Rattle.demands.proofs.Off.{stands-on-a-gap, of-card, close, at-knots, looks, gap-left, on-its-card, in-table, table-counted, written-never, checked-never, read-never, read-off-never, table-never}
 
 -- ---- 1
 
@@ -144,6 +144,8 @@ off s a =
       gaps = stands-on-a-gap (card-of s) (accepted-card quintic quintic-head s a);
       close = λ r same h. close s a (minute r) h (r .promised ∙ ap (λ s. read-off s (minute r)) same);
       at-knots = λ r same i l there. at-knots s a i l (r .promised ∙ ap₂ read-off same there);
+      looks = λ r same h. looks s a (minute r) h (r .promised ∙ ap (λ s. read-off s (minute r)) same);
+      gap-left = gap-left s a;
       tables = λ t same zero i l.
           let tables = table-of t same in
           let v = table-accepted t same zero in

@@ -18,22 +18,24 @@ use Rattle.curve.specs.Reading.{Reading, gap-of}
 use Rattle.curve.specs.Steps.{lengths, counted, codes, stands, in-range, smooth, outside, room}
 use Rattle.curve.specs.Orders.{numbers-sound, sound, verdict, card-order, lists-order, write-order, reading-order, reading}
 use Rattle.curve.specs.Demand.{Close, On-gap, numbers, Demand3}
-use Rattle.curve.proofs.Accepted.{good}
+use Rattle.curve.proofs.Accepted.{Good, good, minutes-rise}
 use Rattle.curve.proofs.Gap.{IsGap, gap-is}
 use Rattle.curve.proofs.NeverTen.{quintic-enough, smooth-there}
 use Rattle.lists.specs.declared.CardReading.{CardReading}
-use Rattle.lists.specs.Lists.{answered}
+use Rattle.minutes.specs.Search.{found}
+use Rattle.minutes.proofs.Halving.{found-one, found-gap, found-looks, found-six}
+use Rattle.lists.specs.Lists.{answered, answer-at}
 use Rattle.card_bytes.specs.Bytes.{quintic-head}
 use Rattle.card_bytes.specs.Held.{card-of}
 use Rattle.card_bytes.specs.Records.{due, head-due, knot-due, end-due, records-due, card-verdict}
-use Rattle.card_bytes.proofs.RoundTrip.{demand-3-of-bytes, reads-its-card}
+use Rattle.card_bytes.proofs.RoundTrip.{demand-3-of-bytes, reads-its-card, accepted-card}
 use Rattle.card.specs.Answers.{own, read-off}
 use Rattle.card.specs.Promise.{Lists, into}
 use Rattle.table.specs.declared.Tabled.{Tabled}
 use Rattle.table.specs.Table.{table-order, minutes-left}
 use Rattle.table.specs.Promise.{Columns, table-verdict, Tables}
 use Rattle.table.proofs.Readings.{count-is, minutes-inside, table-is-readings}
-use Rattle.demands.specs.Demands.{On-the-card, A-gap, Half-a-unit}
+use Rattle.demands.specs.Demands.{On-the-card, A-gap, Looks, Half-a-unit}
 
 -- ---- readings
 
@@ -63,9 +65,9 @@ module _ (s : List ℕ) (a : own s ≡ accepted) where
   of-card = demand-3-of-bytes quintic quintic-head s a (lit≤ tt)
 
   -- what is read off the bytes is what is read off their card
-  reads : (minute : ℕ) {r : CardReading} → r ≡ read-off s minute → r ≡ answered (reading quintic c minute)
-  unfolding read-off
-  reads minute e = e ∙ ap answered (reads-its-card quintic quintic-head s a minute)
+  reads : (minute : ℕ) {r : CardReading} → r ≡ read-off s minute → r ≡ answered (found (c .minutes) minute .looks) (reading quintic c minute)
+  unfolding read-off answer-at
+  reads minute e = e ∙ ap (answered _) (reads-its-card quintic quintic-head s a minute)
 
   abbrev three-of : CardReading → Reading
   three-of r = record { value = r .value; slope = r .slope; curvature = r .curvature }
@@ -74,11 +76,30 @@ module _ (s : List ℕ) (a : own s ≡ accepted) where
       → (r .number ≡ 0) × ((i t : ℕ) → On-gap c minute i t → Close (knot c i) (knot c (i + 1)) t (three-of r))
   close minute h e =
       let r = of-card .readings minute (h .0) (h .1) in
-      let is = reads minute e ∙ ap answered (r .1) in
+      let is = reads minute e ∙ ap (answered _) (r .1) in
       (ap (λ a. a .number) is, λ i t on. subst (λ a. Close (knot c i) (knot c (i + 1)) t (three-of a)) (sym is) (r .2 i t on))
 
   pub at-knots : (i : ℕ) → i < knots c → {r : CardReading} → r ≡ read-off s (knot c i .x) → (r .number ≡ 0) × (three-of r ≡ numbers (knot c i))
-  at-knots i l e = let is = reads (knot c i .x) e ∙ ap answered (of-card .at-knots i l) in (ap (λ a. a .number) is, ap three-of is)
+  at-knots i l e = let is = reads (knot c i .x) e ∙ ap (answered _) (of-card .at-knots i l) in (ap (λ a. a .number) is, ap three-of is)
+
+  -- the looks for the minute's gap, and what they leave
+  module _ (minute : ℕ) (h : On-the-card c minute) where
+    good-card : Good quintic c
+    good-card = good quintic c (accepted-card quintic quintic-head s a)
+
+    pub looks : {r : CardReading} → r ≡ read-off s minute → Looks c minute (r .looks)
+    unfolding knots
+    looks e =
+        let is = ap (λ r. r .looks) (reads minute e ∙ ap (answered _) (of-card .readings minute (h .0) (h .1) .1)) in
+        record {
+          counted = is;
+          few = λ p l. subst (λ n. n ≤ p) (sym is) (found-looks (c .minutes) minute p l);
+          six = subst (λ n. n ≤ 6) (sym is) (found-six (c .minutes) minute (good-card .many));
+        }
+
+    pub gap-left : (let l = found (c .minutes) minute in (l .gaps ≡ 1) × (l .first ≡ gap-of (c .minutes) minute))
+    unfolding knots knot quintic
+    gap-left = (found-one (c .minutes) minute (omega (arith, good-card .few)), found-gap (c .minutes) minute (omega (arith, good-card .few)) (minutes-rise good-card) (h .0))
 
   -- the three numbers at a place of a table's lists
   abbrev row-of : Columns → ℕ → Reading

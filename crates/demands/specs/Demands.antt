@@ -3,7 +3,7 @@
 use mathlib.Core.Path.{_≡_}
 use mathlib.Core.Logic.{_≢_}
 use mathlib.Core.List.{List}
-use Prim.Native.Nat.{ℕ, _+_, _-_, _*_, _≤_, _<_, min}
+use Prim.Native.Nat.{ℕ, _+_, _-_, _*_, _^_, _≤_, _<_, min}
 use lib.IntN.{ℤ, pos}
 use lib.ListN.{length, take, drop}
 use lib.Dec.{T}
@@ -16,10 +16,12 @@ use Rattle.curve.specs.Kind.{quintic, inner}
 use Rattle.curve.specs.Card.{latest, Card, knots, knot}
 use Rattle.curve.specs.Log.{count, sum, faults, middle}
 use Rattle.curve.specs.Log as Log
+use Rattle.curve.specs.Reading.{gap-of}
 use Rattle.curve.specs.Steps.{size as card-size}
 use Rattle.curve.specs.Orders.{write-order, reading-order}
 use Rattle.curve.specs.Exact.{Exact, Near}
 use Rattle.curve.specs.Demand.{Close, On-gap, numbers, Jump-within}
+use Rattle.minutes.specs.Search.{found}
 use Rattle.knots.specs.Lent.{lent}
 use Rattle.rows.specs.declared.End.{End}
 use Rattle.rows.specs.declared.End.the-variants.{Free}
@@ -97,7 +99,7 @@ pub record Demand-1 : Type 0 where
   pub write-zeros : (c : A-write) → c .answer .number ≢ 0 → c .answer .bytes ≡ 0
   pub check-zeros : (c : A-check) → No-card (c .answer)
   pub read-zeros : (c : A-read) → No-card (c .answer)
-  pub reading-zeros : (c : A-reading) → c .answer .number ≢ 0 → (c .answer .value ≡ pos 0) × (c .answer .slope ≡ pos 0) × (c .answer .curvature ≡ pos 0)
+  pub reading-zeros : (c : A-reading) → c .answer .number ≢ 0 → (c .answer .value ≡ pos 0) × (c .answer .slope ≡ pos 0) × (c .answer .curvature ≡ pos 0) × (c .answer .looks ≡ 0)
   pub table-zeros : (c : A-table) → c .answer .number ≢ 0 → c .answer .count ≡ 0
   pub refit-zeros : (c : A-refit) → c .answer .number ≢ 0 → (c .answer .knots ≡ 0) × (c .answer .changed ≡ 0)
   pub mend-zeros : (c : A-mend) → c .answer .number ≢ 0 → c .answer .count ≡ 0
@@ -214,6 +216,12 @@ pub record A-gap (card : Card) (m : ℕ) : Type 0 where
   pub minutes : ℕ
   pub on : On-gap card m left-knot minutes
 
+-- n looks for the gap of a minute (document 02, order 7): "the count of that rule", "at most the smallest p for which 2 to the p is not below the number of gaps: six for a full card"
+pub record Looks (card : Card) (m n : ℕ) : Type 0 where
+  pub counted : n ≡ found (card .minutes) m .looks
+  pub few : (p : ℕ) → knots card - 1 ≤ 2 ^ p → n ≤ p
+  pub six : n ≤ 6
+
 -- of bytes, and the card that they hold
 pub record Off (s : List ℕ) : Type 0 where
   -- "at any whole minute of it"
@@ -224,6 +232,9 @@ pub record Off (s : List ℕ) : Type 0 where
   -- "at knots they are the card's own"
   pub at-knots : (r : A-reading) → reading-bytes r ≡ s → (i : ℕ) → i < knots (card-of s) → minute r ≡ knot (card-of s) i .x →
       (r .answer .number ≡ 0) × (three r ≡ numbers (knot (card-of s) i))
+  -- with the looks for the minute's gap; they leave one gap, which is the one that is read
+  pub looks : (r : A-reading) → reading-bytes r ≡ s → On-the-card (card-of s) (minute r) → Looks (card-of s) (minute r) (r .answer .looks)
+  pub gap-left : (m : ℕ) → On-the-card (card-of s) m → (let l = found (card-of s .minutes) m in (l .gaps ≡ 1) × (l .first ≡ gap-of (card-of s .minutes) m))
   -- and so in a table: at each of its places is what is read at that minute of the card, as many minutes as the lists have places or as the card has left
   pub tables : (t : A-table) → table-bytes t ≡ s → t .answer .number ≡ 0 → (i : ℕ) → i < t .answer .count →
       On-the-card (card-of s) (from t + i) × ((r : A-reading) → reading-bytes r ≡ s → minute r ≡ from t + i → (r .answer .number ≡ 0) × (row t i ≡ three r))

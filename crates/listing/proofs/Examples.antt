@@ -5,7 +5,7 @@ use mathlib.Core.Path.{_≡_, refl}
 use mathlib.Core.List.{List, [], _∷_, _++_}
 use lib.IntN.{ℤ, pos, negsuc}
 use Rattle.decimal.specs.Decimal.{spelled, digits, signed, field}
-use Rattle.listing.specs.Text.{four-fields, knot-line, no-log, listed-line, ok-line, refused-line, lines, line-of, listing}
+use Rattle.listing.specs.Text.{four-fields, knot-line, counted-line, no-log, listed-line, ok-line, refused-line, lines, line-of, listing}
 
 abbrev minutes : List ℕ
 minutes = 0 ∷ 8 ∷ 16 ∷ 24 ∷ 32 ∷ []
@@ -32,5 +32,5 @@ pub table-3 :
     (listing 0 0 minutes ordinates slopes curvatures [] ≡ printed "8 0 230400 83200\n")
     × (listing 10 2 minutes ordinates slopes curvatures [] ≡ spelled "refused 10 at 2\n") × (listing 1 0 [] [] [] [] [] ≡ spelled "refused 1 at 0\n")
     × (of-a-log no-log ≡ printed "8 0 230400 83200\n") × (of-a-log 0 ≡ printed "8 0 230400 83200 0\n") × (of-a-log 60 ≡ printed "8 0 230400 83200 60\n")
-unfolding spelled digits signed field four-fields knot-line listed-line ok-line refused-line lines line-of listing
+unfolding spelled digits signed field four-fields knot-line counted-line listed-line ok-line refused-line lines line-of listing
 table-3 = (refl, refl, refl, refl, refl, refl)

@@ -12,7 +12,7 @@ use mir.Syntax.{w32}
 use mir.Val.{SFits}
 use Rattle.decimal.specs.Decimal.{spelled, decimal, field, worded}
 use Rattle.decimal.proofs.Lengths.{length-decimal, length-field}
-use Rattle.listing.specs.Text.{space, line-feed, four-fields, knot-line, no-log, listed-line, ok-line, refused-line, lines, line-of, listing, longest-line}
+use Rattle.listing.specs.Text.{space, line-feed, four-fields, knot-line, counted-line, no-log, listed-line, ok-line, refused-line, lines, line-of, listing, longest-line}
 
 -- a number of 32 bits has at most ten digits
 ten-digits : (n : ℕ) → n < 2 ^ 32 → length (decimal n) ≤ 10
@@ -46,13 +46,18 @@ pub length-knot-line : (x : ℕ) (y m M : ℤ) → x < 2 ^ 32 → SFits w32 y �
 unfolding knot-line
 length-knot-line x y m M = length-four-fields x y m M line-feed
 
+pub length-counted-line : (x : ℕ) (y m M : ℤ) (count : ℕ) → x < 2 ^ 32 → SFits w32 y → SFits w32 m → SFits w32 M → count < 2 ^ 32 → length (counted-line x y m M count) ≤ longest-line
+unfolding counted-line
+length-counted-line x y m M count a b c d e =
+    omega (arith, length-append (four-fields x y m M space) (field (pos count) line-feed), length-four-fields x y m M space a b c d, twelve (pos count) line-feed (omega arith))
+
 -- what a line of a listing is, by its faults
 module _ (x : ℕ) (y m M : ℤ) (faults : ℕ) where
   pub of-a-knot : faults ≡ no-log → listed-line x y m M faults ≡ knot-line x y m M
   unfolding listed-line
   of-a-knot h = rw (eq-eqb faults no-log h)
 
-  pub of-a-log : (faults ≡ no-log → ⊥) → listed-line x y m M faults ≡ four-fields x y m M space ++ field (pos faults) line-feed
+  pub of-a-log : (faults ≡ no-log → ⊥) → listed-line x y m M faults ≡ counted-line x y m M faults
   unfolding listed-line
   of-a-log h = rw (ne-eqb faults no-log h)
 
@@ -60,7 +65,7 @@ module _ (x : ℕ) (y m M : ℤ) (faults : ℕ) where
   length-listed-line a b c d e =
       elim (ℕ-discrete faults no-log) [
         | yes h ↦ rw (of-a-knot h) (omega (arith, length-knot-line x y m M a b c d))
-        | no h ↦ rw (of-a-log h) (omega (arith, length-append (four-fields x y m M space) (field (pos faults) line-feed), length-four-fields x y m M space a b c d, twelve (pos faults) line-feed (omega arith)))
+        | no h ↦ rw (of-a-log h) (length-counted-line x y m M faults a b c d e)
       ]
 
 pub length-ok-line : (n : ℕ) → n < 2 ^ 32 → length (ok-line n) ≤ 14

@@ -23,13 +23,17 @@ four-fields x y m M last = field (pos x) space ++ field y space ++ field m space
 unfoldable pub knot-line : ℕ → ℤ → ℤ → ℤ → List ℕ
 knot-line x y m M = four-fields x y m M line-feed
 
+-- with a count behind them
+unfoldable pub counted-line : ℕ → ℤ → ℤ → ℤ → ℕ → List ℕ
+counted-line x y m M count = four-fields x y m M space ++ field (pos count) line-feed
+
 -- in the place of a knot's faults, where it is no log's; a log has at most 60
 abbrev pub no-log : ℕ
 no-log = 255
 
 -- of a log "its line has the faults printed behind the curvature", and no other knot's
 unfoldable pub listed-line : ℕ → ℤ → ℤ → ℤ → ℕ → List ℕ
-listed-line x y m M faults = cond (eqb faults no-log) (knot-line x y m M) (four-fields x y m M space ++ field (pos faults) line-feed)
+listed-line x y m M faults = cond (eqb faults no-log) (knot-line x y m M) (counted-line x y m M faults)
 
 unfoldable pub ok-line : ℕ → List ℕ
 ok-line n = worded "ok " n ++ (line-feed ∷ [])

@@ -4,7 +4,7 @@ ghost use mathlib.Core.Path.{_≡_};
 ghost use Prim.Native.Nat.{_+_, _*_, _^_, _≤_, _<_};
 ghost use lib.ListN.{length, getD};
 ghost use Rattle.decimal.specs.Put.{Put};
-ghost use Rattle.listing.specs.Text.{four-fields, knot-line, no-log, listed-line, ok-line, refused-line, line-of, listing, longest-line, Lines};
+ghost use Rattle.listing.specs.Text.{four-fields, knot-line, counted-line, no-log, listed-line, ok-line, refused-line, line-of, listing, longest-line, Lines};
 
 // A knot's four numbers, and a byte behind the last.
 fn four_fields(text: &mut [u8], at: usize, x: u16, y: i32, m: i32, c: i32, last: u8) -> usize
@@ -24,6 +24,15 @@ pub fn knot_line(text: &mut [u8], at: usize, x: u16, y: i32, m: i32, c: i32) -> 
     four_fields(text, at, x, y, m, c, b'\n')
 }
 
+// A count behind the four: a log's faults, or the looks for a reading.
+pub fn counted_line(text: &mut [u8], at: usize, x: u16, y: i32, m: i32, c: i32, count: u32) -> usize
+    requires { ⌜ at + length (counted-line x y m c count) ≤ length (now text) ⌝ }
+    ensures { λ r. ⌜ Put (counted-line x y m c count) (now (text .entry)) (now (text .exit)) at r ⌝ }
+{
+    let next = four_fields(text, at, x, y, m, c, b' ');
+    decimal::put_field(text, next, count as i64, b'\n')
+}
+
 // In the place of a knot's faults, where it is no log's.
 pub const NO_LOG: u8 = 255;
 
@@ -35,8 +44,7 @@ fn listed_line(text: &mut [u8], at: usize, x: u16, y: i32, m: i32, c: i32, fault
     if faults == NO_LOG {
         return knot_line(text, at, x, y, m, c);
     }
-    let next = four_fields(text, at, x, y, m, c, b' ');
-    decimal::put_field(text, next, faults as i64, b'\n')
+    counted_line(text, at, x, y, m, c, faults as u32)
 }
 
 fn faults_at(faults: &[u8], i: usize) -> u8

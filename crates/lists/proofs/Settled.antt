@@ -19,6 +19,7 @@ use Rattle.curve.specs.Card.{Card, knot, knots, gap, back, on, spot, joint}
 use Rattle.curve.specs.Jump.{jumps}
 use Rattle.curve.specs.Reading.{gap-of}
 use Rattle.curve.specs.Steps.{outside}
+use Rattle.curve.proofs.Accepted.{Rises}
 use Rattle.curve.proofs.Gap.{IsGap, gap-is, in-card}
 use Rattle.answer.specs.Answer.{accepted}
 use Rattle.knots.specs.declared.Kind.{Kind}
@@ -42,6 +43,9 @@ use Rattle.lists.specs.Lists.{Checked, In-place, numbers-at, code-of, sq
 module _ {xs : List ℕ} {ys ms cs : List ℤ} (k : Checked xs ys ms cs) where
   stands-there : Stood quintic xs ys
   stands-there = stood (k .stand)
+
+  pub minutes-rise : Rises xs
+  minutes-rise = stands-there .rising
 
   in-range-there : Ranged quintic xs ms cs
   unfolding knots

@@ -7,13 +7,15 @@ use Prim.Native.Nat.{ℕ, suc, _+_, _-_, _≤_, _<_, _^_, min}
 use lib.Dec.{eqb}
 use lib.IntN.{ℤ, pos}
 use lib.ListN.{length, getD}
-use Rattle.answer.specs.Answer.{Answer, refused, given, accepted, each}
+use Rattle.answer.specs.Answer.{Answer, Verdict, refused, given, accepted, each}
 use Rattle.curve.specs.Kind.{quintic}
 use Rattle.curve.specs.Card.{Card, knot, back}
 use Rattle.curve.specs.Reading.{Reading, reads}
 use Rattle.curve.specs.Steps.{stands, in-range}
+use Rattle.curve.specs.Orders.{reading-order}
 use Rattle.knots.specs.declared.Kind.{Kind}
 use Rattle.minutes.specs.Gaps.{left-gap, right-gap}
+use Rattle.minutes.specs.Search.{found}
 use Rattle.knots.specs.Lent.{lent}
 use Rattle.gaps.specs.declared.Knot.{Knot}
 use Rattle.jumps.specs.declared.Order.{Order}
@@ -71,7 +73,11 @@ jumps-of k o j = past (jump-of o (j .left) (j .right) (j .before) (j .here) (j .
 abbrev pub spell-of : Card → ℕ → ℕ → Reading
 spell-of c i minute = reads (knot c i) (knot c (i + 1)) (minute - knot c i .x)
 
--- zeros behind a refusal
-abbrev pub answered : Answer Reading → CardReading
-answered (refused n p) = record { number = n; place = p; value = pos 0; slope = pos 0; curvature = pos 0 }
-answered (given r) = record { number = 0; place = 0; value = r .value; slope = r .slope; curvature = r .curvature }
+-- the three numbers and the looks; zeros behind a refusal
+abbrev pub answered : ℕ → Answer Reading → CardReading
+answered looks (refused n p) = record { number = n; place = p; value = pos 0; slope = pos 0; curvature = pos 0; looks = 0 }
+answered looks (given r) = record { number = 0; place = 0; value = r .value; slope = r .slope; curvature = r .curvature; looks = looks }
+
+-- what a card reads at a minute, by the card's own verdict; "The count returned with a reading equals the count of that rule" (document 02, order 7)
+unfoldable pub answer-at : Verdict → Card → ℕ → CardReading
+answer-at own c minute = answered (found (c .minutes) minute .looks) (reading-order own c minute)

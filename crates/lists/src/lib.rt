@@ -9,11 +9,11 @@ ghost use Rattle.answer.specs.Answer.{accepted, refused, given, each};
 ghost use Rattle.answer.specs.Judge.{verdict-of, numbered};
 ghost use Rattle.curve.specs.Kind.{quintic, end};
 ghost use Rattle.curve.specs.Steps.{stands, smooth};
-ghost use Rattle.curve.specs.Orders.{numbers-sound, sound, reading-order};
+ghost use Rattle.curve.specs.Orders.{numbers-sound, sound};
 ghost use Rattle.knots.specs.Kinds.{kind-of};
 ghost use Rattle.knots.specs.Lent.{lent};
 ghost use Rattle.jumps.specs.Sides.{order-of};
-ghost use Rattle.lists.specs.Lists.{Long, Checked, In-place, numbers-at, code-of, square-of, joint-at, Tested, jumps-of, spell-of, answered};
+ghost use Rattle.lists.specs.Lists.{Long, Checked, In-place, numbers-at, code-of, square-of, joint-at, Tested, jumps-of, spell-of, answered, answer-at};
 
 // ---- 10
 
@@ -219,7 +219,7 @@ pub fn sound(
 
 // ---- a reading
 
-// What a card reads at a minute; zeros beside the number and place of a refusal.
+// What a card reads at a minute, and the looks for the minute's gap; zeros beside the number and place of a refusal.
 #[repr(C)]
 pub struct CardReading {
     pub number: u32,
@@ -227,11 +227,12 @@ pub struct CardReading {
     pub value: i32,
     pub slope: i32,
     pub curvature: i32,
+    pub looks: u32,
 }
 
 impl CardReading {
     pub fn refused(number: u32, place: u32) -> CardReading
-        ensures { λ r. ⌜ r ≡ answered (refused number place) ⌝ }
+        ensures { λ r. ⌜ r ≡ answered 0 (refused number place) ⌝ }
     {
         CardReading {
             number,
@@ -239,16 +240,25 @@ impl CardReading {
             value: 0,
             slope: 0,
             curvature: 0,
+            looks: 0,
         }
     }
 }
 
-// At a minute of the gap that starts at place i.
-fn read_gap(xs: &[u16], ys: &[i16], ms: &[i32], cs: &[i32], i: usize, minute: u16) -> CardReading
+// At a minute of the one gap that the looks have left.
+fn read_gap(
+    xs: &[u16],
+    ys: &[i16],
+    ms: &[i32],
+    cs: &[i32],
+    gap: minutes::Left,
+    minute: u16,
+) -> CardReading
     requires { ⌜ Checked (now xs) (now ys) (now ms) (now cs) ⌝ }
-    requires { ⌜ In-place (now xs) i minute ⌝ }
-    ensures { λ r. ⌜ ((left right : ℕ) → r ≡ answered (given (spell-of (lent (now (xs .entry)) (now (ys .entry)) (now (ms .entry)) (now (cs .entry)) left right) i minute))) ⌝ }
+    requires { ⌜ In-place (now xs) (gap .first) minute ⌝ }
+    ensures { λ r. ⌜ ((left right : ℕ) → r ≡ answered (gap .looks) (given (spell-of (lent (now (xs .entry)) (now (ys .entry)) (now (ms .entry)) (now (cs .entry)) left right) (gap .first) minute))) ⌝ }
 {
+    let i = gap.first;
     let from = xs[i];
     let to = xs[i + 1];
     let h = (to - from) as i64;
@@ -262,6 +272,7 @@ fn read_gap(xs: &[u16], ys: &[i16], ms: &[i32], cs: &[i32], i: usize, minute: u1
         value: r.value,
         slope: r.slope,
         curvature: r.curvature,
+        looks: gap.looks,
     }
 }
 
@@ -269,13 +280,13 @@ fn read_gap(xs: &[u16], ys: &[i16], ms: &[i32], cs: &[i32], i: usize, minute: u1
 pub fn read_at(xs: &[u16], ys: &[i16], ms: &[i32], cs: &[i32], minute: u16) -> CardReading
     requires { ⌜ Checked (now xs) (now ys) (now ms) (now cs) ⌝ }
     requires { ⌜ 2 ≤ length (now xs) ⌝ }
-    ensures { λ r. ⌜ ((left right : ℕ) → r ≡ answered (reading-order accepted (lent (now (xs .entry)) (now (ys .entry)) (now (ms .entry)) (now (cs .entry)) left right) minute)) ⌝ }
+    ensures { λ r. ⌜ ((left right : ℕ) → r ≡ answer-at accepted (lent (now (xs .entry)) (now (ys .entry)) (now (ms .entry)) (now (cs .entry)) left right) minute) ⌝ }
 {
     let outside = minutes::outside(xs, minute);
     match outside {
         answer::Judged::Accepted => {
-            let i = minutes::gap_of(xs, minute);
-            read_gap(xs, ys, ms, cs, i, minute)
+            let gap = minutes::find(xs, minute);
+            read_gap(xs, ys, ms, cs, gap, minute)
         }
         answer::Judged::Refused(number, place) => CardReading::refused(number, place),
     }

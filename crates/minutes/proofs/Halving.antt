@@ -1,6 +1,6 @@
 -- What the halving rule leaves: one gap, the gap of the minute, by so few looks. Document 02, order 7.
 -- Assumes nothing.
-use mathlib.Core.Path.{_≡_, refl, sym, ap, subst}
+use mathlib.Core.Path.{_≡_, refl, subst}
 use mathlib.Core.Bool.{Bool, true, false, cond}
 use mathlib.Core.List.{List}
 use Prim.Native.Nat.{ℕ, zero, suc, _+_, _-_, _*_, _/_, _^_, _≤_, _<_}
@@ -71,8 +71,8 @@ module _ (xs : List ℕ) (minute : ℕ) where
   looked-through P keep zero l h p = rw (looking-end zero l (omega arith)) (record { keeps = p; one = omega arith })
   looked-through P keep (suc n) l h p =
       elim (decLt 1 (l .gaps)) [
-        yes more ↦ rw (looking-next n l more) (looked-through P keep n (next l) (omega (arith, kept l minute (getD xs (middle l) 0) more .half)) (keep l more p))
-      | no few ↦ rw (looking-end (suc n) l (omega (arith, few))) (record { keeps = p; one = omega (arith, few) })
+        | yes more ↦ rw (looking-next n l more) (looked-through P keep n (next l) (omega (arith, kept l minute (getD xs (middle l) 0) more .half)) (keep l more p))
+        | no few ↦ rw (looking-end (suc n) l (omega (arith, few))) (record { keeps = p; one = omega (arith, few) })
       ]
 
   found-keeps : (P : Left → Type 0) → ((l : Left) → 1 < l .gaps → P l → P (next l)) → P (every-gap (length xs)) → Over P (found xs minute)

@@ -38,7 +38,7 @@ use Rattle.minutes.proofs.wider_gap.Reads as wider-gap
 use Rattle.knots.proofs.stand.Reads as stand
 use Rattle.knots.proofs.in_range.Reads as in-range
 use Rattle.minutes.proofs.outside.Reads as outside
-use Rattle.minutes.proofs.gap_of.Reads as gap-of
+use Rattle.minutes.proofs.find.Reads as find
 use Rattle.gaps.proofs.Knot.mirrored.Reads as mirrored
 use Rattle.weight_sheet.proofs.Found.of.Reads as sheet-of
 use Rattle.weights.proofs.Weights.of.Reads as weights-of
@@ -363,7 +363,7 @@ records = ((λ κs a x y s t p q. ap (λ n. record { at = n }) (one-outcome p q)
 
 -- ---- checks and readings
 
-pub minutes : Once back.Post × Once on.Post × Once left-gap.Post × Once right-gap.Post × Once wider-gap.Post × Once outside.Post × Once gap-of.Post
+pub minutes : Once back.Post × Once on.Post × Once left-gap.Post × Once right-gap.Post × Once wider-gap.Post × Once outside.Post × Once find.Post
 minutes = (equation _ _, equation _ _, equation _ _, equation _ _, equation _ _, judgement _, equation _ _)
 
 pub knots : Once kind-quintic.Post × Once same-lengths.Post × Once counted.Post × Once codes.Post × Once sized.Post × Once room.Post × Once stand.Post × Once in-range.Post

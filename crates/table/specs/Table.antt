@@ -3,12 +3,8 @@
 use Prim.Native.Nat.{ℕ, _+_, _-_, min}
 use mathlib.Core.List.{List}
 use lib.ListN.{length, getD}
-use Rattle.answer.specs.Answer.{refused, given, Verdict, accepted, _then_}
-use Rattle.curve.specs.Card.{Card}
+use Rattle.answer.specs.Answer.{refused, given, Verdict, _then_}
 use Rattle.curve.specs.Steps.{lengths, outside}
-use Rattle.curve.specs.Orders.{reading-order}
-use Rattle.lists.specs.declared.CardReading.{CardReading}
-use Rattle.lists.specs.Lists.{answered}
 use Rattle.table.specs.declared.Tabled.{Tabled}
 
 -- 3, the card's, 11. Three lengths of lent lists, the card's own verdict and its minutes, and the first minute of the table.
@@ -27,9 +23,3 @@ count xs from places = min places (minutes-left xs from)
 unfoldable pub tabled : Verdict → ℕ → Tabled
 tabled (refused n p) count = record { number = n; place = p; count = 0 }
 tabled (given u) count = record { number = 0; place = 0; count = count }
-
--- ---- inside
-
--- what an accepted card reads at a minute
-abbrev pub off : Card → ℕ → CardReading
-off c minute = answered (reading-order accepted c minute)

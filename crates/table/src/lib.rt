@@ -12,9 +12,9 @@ ghost use Rattle.curve.specs.Kind.{quintic};
 ghost use Rattle.curve.specs.Steps.{outside};
 ghost use Rattle.curve.specs.Orders.{verdict};
 ghost use Rattle.knots.specs.Lent.{lent};
-ghost use Rattle.lists.specs.Lists.{Checked};
+ghost use Rattle.lists.specs.Lists.{Checked, answer-at};
 ghost use Rattle.decode.specs.Decoded.{decoded, Full};
-ghost use Rattle.table.specs.Table.{table-order, count, off};
+ghost use Rattle.table.specs.Table.{table-order, count};
 ghost use Rattle.table.specs.Promise.{columns, Given, Tables};
 
 // Zeros behind a refusal.
@@ -87,7 +87,7 @@ fn fill(
     requires { ⌜ (2 ≤ length (now xs)) × (from + count ≤ 2 ^ 16) ⌝ }
     requires { ⌜ (count ≤ length (now values)) × (count ≤ length (now slopes)) × (count ≤ length (now curvatures)) ⌝ }
     ensures { λ _. ⌜
-        Given (λ i. off (lent (now (xs .entry)) (now (ys .entry)) (now (ms .entry)) (now (cs .entry)) 0 0) (from + i)) count
+        Given (λ i. answer-at accepted (lent (now (xs .entry)) (now (ys .entry)) (now (ms .entry)) (now (cs .entry)) 0 0) (from + i)) count
         (columns (values .entry) (slopes .entry) (curvatures .entry))
         (columns (values .exit) (slopes .exit) (curvatures .exit)) ⌝ }
 {
@@ -117,7 +117,7 @@ fn give(
     requires { ⌜ (length (now slopes) ≡ length (now values)) × (length (now curvatures) ≡ length (now values)) ⌝ }
     ensures { λ r. ⌜ (r ≡ count (decoded card .minutes) from (length (now (values .entry)))) × (from + r ≤ 2 ^ 16) ⌝ }
     ensures { λ r. ⌜
-        Given (λ i. off (decoded card) (from + i)) r
+        Given (λ i. answer-at accepted (decoded card) (from + i)) r
         (columns (values .entry) (slopes .entry) (curvatures .entry))
         (columns (values .exit) (slopes .exit) (curvatures .exit)) ⌝ }
 {

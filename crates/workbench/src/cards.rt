@@ -24,15 +24,17 @@ fn list(name: &[u8], bytes: &[u8]) -> u8 {
     crate::tell::print(crate::tell::front(&text, listed.length))
 }
 
+// The looks for the minute's gap stand behind the three numbers.
 fn print_reading(minute: u16, reading: lists::CardReading) -> u8 {
     let mut text = io::buffer();
-    let n = crate::tables::put_reading(
+    let n = listing::counted_line(
         &mut text,
         0,
         minute,
         reading.value,
         reading.slope,
         reading.curvature,
+        reading.looks,
     );
     crate::tell::print(crate::tell::front(&text, n))
 }

@@ -50,7 +50,7 @@ pub(crate) fn at(list: &[i32; Readings::MOST], i: usize) -> i32 {
 }
 
 // The line of a reading, where the buffer has room for any.
-pub(crate) fn put_reading(
+fn put_reading(
     text: &mut [u8],
     at: usize,
     minute: u16,

@@ -53,6 +53,7 @@ pub struct Reading {
     pub value: i32,
     pub slope: i32,
     pub curvature: i32,
+    pub looks: u32,
 }
 
 /// What kaihveto_table answers.

@@ -175,6 +175,42 @@ fn p7() {
     assert_eq!(reading(&card, 3).unwrap().value, 2);
 }
 
+/// Minute after minute, a knot at every second one, on one line.
+fn line_of(knots: usize) -> Vec<u8> {
+    let minutes: Vec<u16> = (0..knots as u16).map(|i| 2 * i).collect();
+    let ordinates: Vec<i16> = (0..knots as i16).collect();
+    card_bytes(&minutes, &ordinates, &vec![2048; knots], &vec![0; knots], 0, 0)
+}
+
+/// The looks at each minute of such a card.
+fn looks_of(knots: usize) -> Vec<u32> {
+    let card = line_of(knots);
+    (0..2 * knots as u16 - 1).map(|minute| reading(&card, minute).unwrap().looks).collect()
+}
+
+#[test]
+fn looks_by_hand() {
+    // Of each gap from the first on; the last knot belongs to the last gap.
+    let by_hand: [&[u32]; 7] =
+        [&[1, 1], &[1, 2, 2], &[2, 2, 2, 2], &[2, 2, 2, 3, 3], &[2, 3, 3, 2, 3, 3], &[2, 3, 3, 3, 3, 3, 3], &[3, 3, 3, 3, 3, 3, 3, 3]];
+    for (knots, gaps) in (3..).zip(by_hand) {
+        let mut minutes: Vec<u32> = gaps.iter().flat_map(|&looks| [looks, looks]).collect();
+        minutes.push(gaps[gaps.len() - 1]);
+        assert_eq!(looks_of(knots), minutes, "{knots} knots");
+    }
+    let full = looks_of(64);
+    assert_eq!((full[0], full[1], full[2], full[126]), (5, 5, 6, 6));
+}
+
+#[test]
+fn no_more_looks_than_the_gaps_halved_and_no_fewer_at_the_most() {
+    for knots in 3..=64 {
+        let smallest = (0..).find(|&p| 1 << p >= knots - 1).unwrap();
+        assert_eq!(looks_of(knots).into_iter().max(), Some(smallest), "{knots} knots");
+    }
+    assert_eq!(looks_of(64).into_iter().max(), Some(6));
+}
+
 #[test]
 fn p8_to_p12() {
     let of = |log: &[u8]| mean(60, log).map(|mean| (mean.minute, mean.ordinate, mean.good, mean.faults));
@@ -598,10 +634,7 @@ fn a_put_is_21_by_the_book_that_it_would_make() {
 
 #[test]
 fn fourteen_full_cards_go_into_one_book() {
-    let n = 64;
-    let minutes: Vec<u16> = (0..n).map(|i| 2 * i).collect();
-    let ordinates: Vec<i16> = (0..n as i16).collect();
-    let card = card_bytes(&minutes, &ordinates, &[2048; 64], &[0; 64], 0, 0);
+    let card = line_of(64);
     let mut book = vec![3; 14_620];
     book[..4].copy_from_slice(&[0, 0, 3, 0]);
     for (count, room) in [7, 14, 1, 3, 2, 13, 9, 8, 10, 4, 6, 5, 12, 11].into_iter().enumerate() {

@@ -177,7 +177,9 @@ pub fn read(tally: &mut Tally, card: &[u8], lengths: [usize; 4]) {
 
 fn read_off(answer: Result<reference::Reading, Refusal>) -> boundary::Reading {
     match answer {
-        Ok(reading) => boundary::Reading { value: reading.value, slope: reading.slope, curvature: reading.curvature, ..Default::default() },
+        Ok(reference::Reading { value, slope, curvature, looks }) => {
+            boundary::Reading { value, slope, curvature, looks, ..Default::default() }
+        }
         Err(Refusal { number, place }) => boundary::Reading { number, place, ..Default::default() },
     }
 }

@@ -330,6 +330,15 @@ fn readings(tally: &mut Tally, random: &mut Random) {
     }
 }
 
+/// Every minute of cards of every number of knots: the looks for a gap beside the reference's.
+fn looks(tally: &mut Tally, random: &mut Random) {
+    for n in 3..=MOST_KNOTS {
+        for code in 0..3 {
+            compare::readings(tally, &curves::fitted(random, n, code, 2 - code).bytes());
+        }
+    }
+}
+
 /// Readings at every minute of the weight sheet's gaps and of those about them: off fitted cards with every two of them side by
 /// side, and off cards with large numbers.
 fn on_the_weight_sheet(tally: &mut Tally, random: &mut Random) {
@@ -691,7 +700,7 @@ type Group = fn(&mut Tally, &mut Random);
 
 /// Runs every group, prints the numbers, and says whether nothing differed and nothing was left unmet.
 pub fn all() -> bool {
-    let groups: [(&str, Group); 18] = [
+    let groups: [(&str, Group); 19] = [
         ("logs", logs),
         ("fits", fits),
         ("given numbers", given),
@@ -710,6 +719,7 @@ pub fn all() -> bool {
         ("books in use", books::books_in_use),
         ("gaps of the weight sheet", on_the_weight_sheet),
         ("cards that start at rest", at_rest),
+        ("looks for a gap", looks),
     ];
     let mut tally = Tally::default();
     for (seed, (name, group)) in groups.iter().enumerate() {

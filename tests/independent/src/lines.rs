@@ -180,8 +180,9 @@ impl Asked {
 
     fn reading(&self) -> String {
         let answer = reading(&self.card, self.minute);
-        let shown = answer.unwrap_or(Reading { value: 0, slope: 0, curvature: 0 });
-        format!("{}; value {}; slope {}; curvature {}", verdict(&answer), shown.value, shown.slope, shown.curvature)
+        let shown = answer.unwrap_or(Reading { value: 0, slope: 0, curvature: 0, looks: 0 });
+        let Reading { value, slope, curvature, looks } = shown;
+        format!("{}; value {value}; slope {slope}; curvature {curvature}; looks {looks}", verdict(&answer))
     }
 
     fn mend(&self) -> String {

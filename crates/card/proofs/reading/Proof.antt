@@ -7,7 +7,7 @@ use Rattle.answer.specs.Judge.{verdict-of}
 use Rattle.answer.proofs.Chain.{step-refuses}
 use Rattle.curve.specs.Kind.{quintic}
 use Rattle.curve.specs.Orders.{verdict, reading-order}
-use Rattle.lists.specs.Lists.{answered}
+use Rattle.lists.specs.Lists.{answered, answer-at}
 use Rattle.card_bytes.specs.Bytes.{quintic-head}
 use Rattle.card_bytes.specs.Held.{card-of}
 use Rattle.card_bytes.proofs.RoundTrip.{accepted-card}
@@ -27,8 +27,8 @@ read-off-requires c κs =
     (h .full, ap (verdict quintic) (h .is) ∙ accepted-card quintic quintic-head _ e)
 
 returns : tie.Need-returns
-unfolding read-off reading-order
-returns c = c .refused .ensures ∙ ap answered (step-refuses _ (c .before .before .before .before .before .by-head .ensures .judged) (c .before .before .verdict .given .1))
+unfolding read-off answer-at reading-order
+returns c = c .refused .ensures ∙ ap (answered _) (step-refuses _ (c .before .before .before .before .before .by-head .ensures .judged) (c .before .before .verdict .given .1))
 
 returns-2 : tie.Need-returns-2
 unfolding read-off
@@ -37,7 +37,7 @@ returns-2 c =
     let s = now (c .before .before .before .before .before .before .args .card) in
     let minute = c .before .before .before .before .before .before .args .minute in
     let h = held (c .before .before .before .before .by-head .ensures) e in
-    c .read-off .ensures ∙ ap (λ k. answered (reading-order accepted k minute)) (h .is) ∙ ap (λ v. answered (reading-order v (card-of s) minute)) (sym e)
+    c .read-off .ensures ∙ ap (λ k. answer-at accepted k minute) (h .is) ∙ ap (λ v. answer-at v (card-of s) minute) (sym e)
 
 pub reading-spec : {M : Type 1} → statement M
 reading-spec =

@@ -1,6 +1,5 @@
 -- `minutes::look` meets its contract.
 -- Assumes nothing.
-use mathlib.Core.Path.{_≡_, sym}
 use borrow.Author.Needs.{needs}
 use borrow.Author.Tests.{lt-ltb, le-ltb}
 use Rattle.minutes.specs.Search.{middle, look}

@@ -5,18 +5,19 @@ use mathlib.Core.Path.{_≡_, ap, _∙_}
 use native.Mathlib.Omega.{arith}
 use mir.Syntax.{w32}
 use mir.Facts.{toZ-ofZ}
+use Rattle.answer.specs.Answer.{accepted}
 use Rattle.front.proofs.Filled.{Filled, filled-none, filled-more}
 use Rattle.knots.specs.Lent.{lent}
-use Rattle.table.specs.Table.{off}
+use Rattle.lists.specs.Lists.{answer-at}
 use Rattle.table.proofs.fill.Statement.{statement}
 use Rattle.table.proofs.fill.Tie as tie
 
 abbrev Inv-loop : tie.InvT-loop
 Inv-loop xs ys ms cs from count values₀ slopes₀ curvatures₀ i₀ values slopes curvatures i =
     (i ≤ count)
-    × Filled (λ i. off (lent xs ys ms cs 0 0) (from + i) .value) i values₀ values
-    × Filled (λ i. off (lent xs ys ms cs 0 0) (from + i) .slope) i slopes₀ slopes
-    × Filled (λ i. off (lent xs ys ms cs 0 0) (from + i) .curvature) i curvatures₀ curvatures
+    × Filled (λ i. answer-at accepted (lent xs ys ms cs 0 0) (from + i) .value) i values₀ values
+    × Filled (λ i. answer-at accepted (lent xs ys ms cs 0 0) (from + i) .slope) i slopes₀ slopes
+    × Filled (λ i. answer-at accepted (lent xs ys ms cs 0 0) (from + i) .curvature) i curvatures₀ curvatures
 
 abbrev μ-loop : tie.MeasureT-loop
 μ-loop xs ys ms cs from count values₀ slopes₀ curvatures₀ i₀ values slopes curvatures i = count - i

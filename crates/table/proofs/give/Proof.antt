@@ -10,6 +10,7 @@ use Rattle.curve.specs.Reading.{reads-at, spell}
 use Rattle.curve.specs.Orders.{reading-order}
 use Rattle.curve.proofs.Accepted.{good}
 use Rattle.curve.proofs.Gap.{in-card}
+use Rattle.lists.specs.Lists.{answer-at}
 use Rattle.decode.specs.Decoded.{decoded}
 use Rattle.card.proofs.Lists.{sound-fronts}
 use Rattle.table.specs.Table.{count}
@@ -48,7 +49,7 @@ fill-requires c κs =
     (sound-fronts (s .pre .0) (s .pre .1 .0 .0), ((omega (arith, few s), n .1), (omega (arith, n .0), omega (arith, n .0), omega (arith, n .0))))
 
 returns : tie.Need-returns
-unfolding decoded reading-order reads-at spell knot
+unfolding decoded answer-at reading-order reads-at spell knot
 returns c =
     (c .before .before .before .before .before .before .before .before .before .before .before .count .ensures, c .before .before .before .fill .ensures)
 
