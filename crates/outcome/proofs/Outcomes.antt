@@ -108,6 +108,7 @@ use Rattle.decimal.proofs.put_signed.Reads as put-signed
 use Rattle.decimal.proofs.put_field.Reads as put-field
 use Rattle.decimal.proofs.put_worded.Reads as put-worded
 use Rattle.listing.proofs.knot_line.Reads as knot-line
+use Rattle.listing.proofs.counted_line.Reads as counted-line
 use Rattle.listing.proofs.refused_line.Reads as refused-line
 use Rattle.listing.proofs.list.Reads as list
 use Rattle.gather.proofs.Knot.plain.Reads as knot-plain
@@ -504,6 +505,9 @@ refusal-listed = putting _ _ _ _
 
 pub knot-listed : Once knot-line.Post × Lent knot-line.Post (λ s. now (s .0))
 knot-listed = putting _ _ _ _
+
+pub count-listed : Once counted-line.Post × Lent counted-line.Post (λ s. now (s .0))
+count-listed = putting _ _ _ _
 
 -- here the second
 pub sheet-listed : Once list-sheet.Post × Lent list-sheet.Post (λ s. now (s .1 .0))
