@@ -1,4 +1,5 @@
-// What the minutes of a card say by themselves: a knot's neighbours, the gaps beside it, and the gap of a minute with the looks that it takes. Document 01, "The curve and its card" and "The exact curve"; document 02, order 7.
+// What the minutes of a card say by themselves: a knot's neighbours, the gaps beside it, and the gap of a minute with the looks that it takes.
+// Document 01, "The curve and its card" and "The exact curve"; document 02, order 7.
 ghost use mathlib.Core.Path.{_≡_};
 ghost use Prim.Native.Nat.{_+_, _-_, _<_, _^_, min};
 ghost use lib.ListN.{length};
