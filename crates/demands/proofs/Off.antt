@@ -21,9 +21,9 @@ use Rattle.curve.specs.Demand.{Close, On-gap, numbers, Demand3}
 use Rattle.curve.proofs.Accepted.{Good, good, minutes-rise}
 use Rattle.curve.proofs.Gap.{IsGap, gap-is}
 use Rattle.curve.proofs.NeverTen.{quintic-enough, smooth-there}
-use Rattle.lists.specs.declared.CardReading.{CardReading}
 use Rattle.minutes.specs.Search.{found}
 use Rattle.minutes.proofs.Halving.{found-one, found-gap, found-looks, found-six}
+use Rattle.lists.specs.declared.CardReading.{CardReading}
 use Rattle.lists.specs.Lists.{answered, answer-at}
 use Rattle.card_bytes.specs.Bytes.{quintic-head}
 use Rattle.card_bytes.specs.Held.{card-of}

@@ -19,16 +19,22 @@ use Rattle.minutes.specs.Search.{middle, look, looking, every-gap, found
 
 -- ---- one look
 
--- it leaves the lower part, or the rest
+-- what it leaves: the lower part, or the rest
+abbrev lower-of : Left → Left
+lower-of l = record { first = l .first; gaps = l .gaps / 2; looks = l .looks + 1 }
+
+abbrev rest-of : Left → Left
+rest-of l = record { first = l .first + l .gaps / 2; gaps = l .gaps - l .gaps / 2; looks = l .looks + 1 }
+
 data Looked (l : Left) (minute knot : ℕ) : Left → Type 0 where
-  lower : minute < knot → Looked l minute knot (record { first = l .first; gaps = l .gaps / 2; looks = l .looks + 1 })
-  rest : knot ≤ minute → Looked l minute knot (record { first = l .first + l .gaps / 2; gaps = l .gaps - l .gaps / 2; looks = l .looks + 1 })
+  lower : minute < knot → Looked l minute knot (lower-of l)
+  rest : knot ≤ minute → Looked l minute knot (rest-of l)
 
 looked : (l : Left) (minute knot : ℕ) → Looked l minute knot (look l minute knot)
 unfolding look middle
 looked l minute knot = go (ltb minute knot) refl
   where
-    go : (b : Bool) → ltb minute knot ≡ b → Looked l minute knot (cond b (record { first = l .first; gaps = l .gaps / 2; looks = l .looks + 1 }) (record { first = l .first + l .gaps / 2; gaps = l .gaps - l .gaps / 2; looks = l .looks + 1 }))
+    go : (b : Bool) → ltb minute knot ≡ b → Looked l minute knot (cond b (lower-of l) (rest-of l))
     go true e = lower (ltb-true _ _ e)
     go false e = rest (ltb-false _ _ e)
 
@@ -51,6 +57,9 @@ module _ (xs : List ℕ) (minute : ℕ) where
   abbrev next : Left → Left
   next l = look l minute (getD xs (middle l) 0)
 
+  kept-next : (l : Left) → 1 < l .gaps → Kept l (next l)
+  kept-next l = kept l minute (getD xs (middle l) 0)
+
   -- ---- all of them
 
   pub looking-next : (n : ℕ) (l : Left) → 1 < l .gaps → looking (suc n) xs minute l ≡ looking n xs minute (next l)
@@ -62,7 +71,7 @@ module _ (xs : List ℕ) (minute : ℕ) where
   looking-end zero l h = refl
   looking-end (suc n) l h = rw (le-ltb 1 (l .gaps) h)
 
-  -- what is left at the end, and what every look that is due has kept of it
+  -- what is left at the end: at most one gap, and what each look that was due has kept
   record Over (P : Left → Type 0) (l : Left) : Type 0 where
     keeps : P l
     one : l .gaps ≤ 1
@@ -71,7 +80,7 @@ module _ (xs : List ℕ) (minute : ℕ) where
   looked-through P keep zero l h p = rw (looking-end zero l (omega arith)) (record { keeps = p; one = omega arith })
   looked-through P keep (suc n) l h p =
       elim (decLt 1 (l .gaps)) [
-        | yes more ↦ rw (looking-next n l more) (looked-through P keep n (next l) (omega (arith, kept l minute (getD xs (middle l) 0) more .half)) (keep l more p))
+        | yes more ↦ rw (looking-next n l more) (looked-through P keep n (next l) (omega (arith, kept-next l more .half)) (keep l more p))
         | no few ↦ rw (looking-end (suc n) l (omega (arith, few))) (record { keeps = p; one = omega (arith, few) })
       ]
 
@@ -83,7 +92,7 @@ module _ (xs : List ℕ) (minute : ℕ) where
 
   pub found-one : 2 ≤ length xs → found xs minute .gaps ≡ 1
   unfolding every-gap
-  found-one h = let o = found-keeps (λ l. 0 < l .gaps) (λ l more p. kept l minute (getD xs (middle l) 0) more .some) (omega arith) in omega (arith, o .keeps, o .one)
+  found-one h = let o = found-keeps (λ l. 0 < l .gaps) (λ l more p. kept-next l more .some) (omega arith) in omega (arith, o .keeps, o .one)
 
   -- ---- it is the gap of the minute
 
@@ -134,7 +143,7 @@ module _ (xs : List ℕ) (minute : ℕ) where
   enough-next p l more e = go (e .to-come) (e .counted) (e .few)
     where
       k : Kept l (next l)
-      k = kept l minute (getD xs (middle l) 0) more
+      k = kept-next l more
 
       go : (n : ℕ) → l .looks + n ≡ p → l .gaps ≤ 2 ^ n → Enough p (next l)
       go zero c h = absurd (omega (arith, pow-zero 2))
