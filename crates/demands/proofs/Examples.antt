@@ -1,7 +1,7 @@
 -- The page is of something: Table 3's knots are accepted by the fit without ends; its card is accepted by the writer, its bytes by the card test, the reader, a reading and a table, and it is within
 -- half a unit of an exact solution; it is put into a book and found there.
 -- Assumes nothing.
-use mathlib.Core.Path.{_≡_, refl, sym, ap, subst}
+use mathlib.Core.Path.{_≡_, refl, sym, ap, _∙_, subst}
 use mathlib.Core.List.{List, [], _∷_, _++_}
 use Prim.Native.Nat.{ℕ, zero, suc, _+_}
 use native.Mathlib.Omega.{arith}
@@ -22,6 +22,7 @@ use Rattle.curve.specs.Orders.{verdict, card-order, write-order, reading-order,
 use Rattle.curve.proofs.Gap.{card-in}
 use Rattle.curve.proofs.Cases.{table-3, p1, shown, value-slope, cases, hold}
 use Rattle.curve.proofs.Witness.{table-3-exact, table-3-near}
+use Rattle.minutes.specs.Search.{middle, look, looking, every-gap, found}
 use Rattle.card_bytes.specs.Bytes.{quintic-head, bytes-of}
 use Rattle.card_bytes.specs.Held.{card-of}
 use Rattle.card_bytes.specs.Records.{card-verdict}
@@ -81,6 +82,9 @@ half = subst Half-a-unit (sym (table-3-bytes .2)) (record { exact = table-3-exac
 pub minute-4 : On-the-card p1 4
 unfolding p1 table-3 knots knot
 minute-4 = (lit≤ tt, lit≤ tt)
+
+on-the-bytes : On-the-card (card-of bytes) 4
+on-the-bytes = subst (λ c. On-the-card c 4) (sym (table-3-bytes .2)) minute-4
 
 -- ---- calls of the functions that the demands speak of, each of which is accepted; whatever lifetimes, pointers and names their lists have
 
@@ -167,7 +171,12 @@ module _ (lifetime : Lft) (pointer : ℕ × ℕ) (name : GName) where
   reading-call = record { lifetimes = (lifetime, tt); arguments = (list bytes, (4, tt)); answer = read-off bytes 4; exit = (list bytes, (4, tt)); promised = refl }
 
   pub reading-accepts : reading-call .answer .number ≡ 0
-  reading-accepts = hold-all .three .off check-call check-accepts .close reading-call refl (subst (λ c. On-the-card c 4) (sym (table-3-bytes .2)) minute-4) .0
+  reading-accepts = hold-all .three .off check-call check-accepts .close reading-call refl on-the-bytes .0
+
+  -- its four gaps take two looks
+  pub reading-looks : reading-call .answer .looks ≡ 2
+  unfolding middle look looking every-gap found p1 table-3
+  reading-looks = hold-all .three .off check-call check-accepts .looks reading-call refl on-the-bytes .counted ∙ ap (λ c. found (c .minutes) 4 .looks) (table-3-bytes .2)
 
   -- into a buffer of just the card's size
   abbrev pub write-call : A-write
