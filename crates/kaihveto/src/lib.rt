@@ -22,6 +22,20 @@ ghost use Rattle.mend.specs.Promise.{Mends};
 ghost use Rattle.book.specs.Lookup.{spot};
 ghost use Rattle.book_put.specs.Put.{put, Puts};
 ghost use Rattle.kaihveto.specs.Types.{Minutes, Room};
+ghost use Rattle.kaihveto.specs.Version.{version};
+
+// The boundary's version, as include/kaihveto.h names it.
+const MAJOR: u32 = 5;
+
+const MINOR: u32 = 1;
+
+// The version in one number, so that a program can see that the library and the header which it was compiled with belong together.
+#[no_mangle]
+pub extern "C" fn kaihveto_version() -> u32
+    ensures { λ r. ⌜ r ≡ version 5 1 ⌝ }
+{
+    65536 * MAJOR + MINOR
+}
 
 // The mean of a log from its first minute on, the minute for which it stands, and how many of its bytes are good and how many are faults: 16, 12, 13, 23, 19.
 #[no_mangle]

@@ -176,6 +176,7 @@ use Rattle.book.proofs.find.Reads as book-find
 use Rattle.book.proofs.lookup.Reads as book-lookup
 use Rattle.book_put.specs.Put.{Puts}
 use Rattle.book_put.proofs.put.Reads as book-put
+use Rattle.kaihveto.proofs.kaihveto_version.Reads as c-version
 use Rattle.kaihveto.proofs.kaihveto_mean.Reads as c-mean
 use Rattle.kaihveto.proofs.kaihveto_fit.Reads as c-fit
 use Rattle.kaihveto.proofs.kaihveto_fit_ends.Reads as c-fit-ends
@@ -561,6 +562,9 @@ card-listed = (
 )
 
 -- ---- the boundary: the parameters stand as in the functions behind it
+
+pub boundary-version : Once c-version.Post
+boundary-version = equation _ _
 
 pub boundary : Once c-mean.Post × Once c-check.Post × Once c-reading.Post
 boundary = (with-more _ _ (equation _ _), with-more _ _ (equation _ _), equation _ _)
