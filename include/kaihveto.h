@@ -1,7 +1,8 @@
-/* kaihveto.h: the curves of a drying hall's set points, for C and C++ on x86-64.
+/* kaihveto.h: the curves of a drying hall's set points, for C and C++ on any processor whose double is binary64.
 
-   Link with libkaihveto.a, which `rt staticlib kaihveto` writes; beside it only the C library's memcpy and memset are needed.
-   The library keeps nothing between calls and asks the system for nothing.
+   There are two ways to link it, and they answer alike. Compile kaihveto.c, which is one file of C11 and needs nothing but this
+   header and the C library's memcpy and memset: `cc -std=c11 -O2 -c kaihveto.c`. Or, on x86-64 Linux, take the archive that
+   `rt staticlib kaihveto` writes. The library keeps nothing between calls and asks the system for nothing.
 
    Words. A knot has a minute (0 to 65,535) and an ordinate (whole hundredths, -20,000 to 20,000). A card has 3 to 64 knots
    with gaps of 1 to 60 minutes, and adds to each knot a slope and a curvature in card units: 1/4096 hundredth per minute, and
@@ -22,30 +23,28 @@
    refusal: the fields behind number and place are then 0, and nothing has been written to any list. Knots and bytes count
    from 0. Every input is allowed: what is not sound is refused, and a call always returns.
 
-   Calls. The functions follow the System V calling convention for x86-64, which C and C++ compilers for Linux use.
+   Calls. kaihveto.c is C like any other: its functions are called as the compiler calls functions. Those of the archive follow the
+   System V calling convention for x86-64, which C and C++ compilers for Linux use.
 
    Threads and interrupts. There is no state, not one variable, so any number of calls may run at once, in any threads, as long
    as nobody touches a list while another call may write to it, or writes to a list while another call reads it. A signal
-   handler may call every function. So may an interrupt handler that has the stack for it and has saved the SSE registers:
-   compiled code moves bytes through them. Interrupts that come in on the stack of the code that they interrupt have to leave
-   the 128 bytes below its stack pointer alone, as the convention says: these functions use them.
+   handler may call every function. So may an interrupt handler that has the stack for it and has saved the registers that
+   compiled code may use, those for floating point too where the processor has them. On x86-64 these are the SSE registers, through
+   which bytes are moved, and interrupts that come in on the stack of the code that they interrupt have to leave the 128 bytes below
+   its stack pointer alone, as the convention says: these functions use them.
 
-   Floating point. kaihveto_fit, kaihveto_fit_ends, kaihveto_refit and kaihveto_mend compute in SSE binary64. Their answers hold in
-   the mode in which a process starts: rounding to nearest, no flush-to-zero, no denormals-are-zero, exceptions masked. A caller
-   that has changed MXCSR restores it for the call; a program that is linked with -ffast-math may start in another mode. The four
-   may set the flags of MXCSR. The other functions have no floating-point operation and answer alike in every mode.
+   Floating point. kaihveto_fit, kaihveto_fit_ends, kaihveto_refit and kaihveto_mend compute in binary64, each operation rounded once.
+   Their answers hold in the mode in which a process starts: rounding to nearest, subnormal numbers kept, exceptions masked. The
+   start-up code of a small board, and a program that is linked with -ffast-math, may set another: it is to be set back for the call.
+   (On x86-64 the mode is in MXCSR, on Arm in FPSCR or FPCR; the four may set its flags.) A compiler must not fuse a product and a sum
+   into one operation: kaihveto.c forbids that to GCC and clang by itself, and refuses -ffast-math; but clang does fuse with
+   -ffp-contract=fast on its command line, which is therefore not to be given, and -ffp-contract=off is never wrong. The other
+   functions have no floating-point operation and answer alike in every mode.
 
    Stack. Bytes that a call needs at 64 knots, in a book at fourteen rooms with as many, measured and rounded up
-   (docs/FIGURES.md, "Stack"); no proof bounds them. The first call may need more, where the loader binds memcpy and memset in
-   it.
+   (docs/FIGURES.md, "Stack"); no proof bounds them. The first call may need more, where a loader binds memcpy and memset in it.
 
-     kaihveto_mean      128        kaihveto_check      3,072      kaihveto_fit       8,192
-     kaihveto_write     512        kaihveto_book_find  3,072      kaihveto_fit_ends  8,192
-                                   kaihveto_book_put   3,072      kaihveto_refit    10,240
-                                   kaihveto_read       4,096      kaihveto_mend     10,240
-                                   kaihveto_reading    4,096
-                                   kaihveto_table      4,096
-
+STACK
    Time. A reading tests the whole card every time and only then looks up the minute: some 1 to 2 microseconds at 64 knots
    (docs/FIGURES.md, "Speed"). A controller that reads once a minute needs to keep nothing but the card's bytes. A table tests
    the card once and then reads minute after minute. A controller that keeps the hall's book instead finds its room's card with
@@ -64,8 +63,11 @@ extern "C" {
 
 /* The version of this header and of the archive that is built beside it. MAJOR rises where a program that was right before
    has to be looked at or compiled anew: a function or an answer's fields change, a number changes its meaning, or the same
-   input gets another answer. MINOR rises where something is added and all else stays. The archive itself does not carry it:
-   take both from one state of the sources.
+   input gets another answer. MINOR rises where something is added and all else stays. kaihveto_version() gives the library's own
+   version, 65536 times MAJOR plus MINOR: where it is not KAIHVETO_VERSION, the library and this header are of two states of the
+   sources, and no other function is to be called.
+
+   5.1: kaihveto_version is added, and kaihveto.c, which is the library for every processor.
 
    5.0: the answer of kaihveto_reading has the looks for the minute's gap, behind the curvature, and is 4 bytes longer for it: a
    program that calls it is to be compiled anew, since one that was compiled with a header before has too little room for the
@@ -86,7 +88,10 @@ extern "C" {
    2.0: kaihveto_mean answers the minute in the log's middle, where 1.2 answered the log's first, and has the refusal 19. Cards
    that were made with the first minutes lead the rooms by half a log, and are to be made anew. */
 #define KAIHVETO_VERSION_MAJOR 5
-#define KAIHVETO_VERSION_MINOR 0
+#define KAIHVETO_VERSION_MINOR 1
+#define KAIHVETO_VERSION (65536u * KAIHVETO_VERSION_MAJOR + KAIHVETO_VERSION_MINOR)
+
+uint32_t kaihveto_version(void);
 
 /* The end codes. */
 #define KAIHVETO_FREE 0
@@ -108,6 +113,10 @@ extern "C" {
 #define KAIHVETO_ORDINATE_LIMIT 20000
 #define KAIHVETO_CARD_NUMBER_LIMIT 1048576
 #define KAIHVETO_GIVEN_NUMBER_LIMIT 256
+
+/* How far a value that is read may lie from 0, either way, in hundredths: knots of 20,000, slopes and curvatures at their limits, in
+   the middle of a gap of 60 minutes. It does not fit 16 bits. */
+#define KAIHVETO_VALUE_LIMIT 53600
 
 /* How a sheet has a hole: in place of the ordinate, and for kaihveto_mend alone. */
 #define KAIHVETO_HOLE (-32768)
@@ -235,7 +244,8 @@ kaihveto_card_answer kaihveto_read(const uint8_t *card, size_t card_length,
                                    int32_t *curvatures, size_t curvatures_length);
 
 /* Reads the curve off a card's bytes at a minute: value in hundredths, slope and curvature in card units, each the exact
-   curve's rounded to nearest, ties to even. The whole card is tested each time.
+   curve's rounded to nearest, ties to even. The whole card is tested each time. The value of a sound card may lie below 0 and above
+   10,000, where the curve swings beyond its knots: what the flap does then is the caller's to decide.
 
    And how many looks the minute's gap took. While more than one gap is left, of k, counted from 0, one look is at the minute of
    the knot that begins gap k/2, rounded down: if the minute asked for is before it, the gaps before that knot are left, else the

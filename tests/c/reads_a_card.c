@@ -1,7 +1,7 @@
-/* Fits document 01's Table 3 through the C header, without ends and then between free ones, and writes its card each time; checks
-   the free one, reads it back and takes readings off it; then a log's mean and a log with too few good bytes, a sheet with two
-   holes mended and put back, and a book of two rooms with a reading off the card that it holds for one of them. What it prints is
-   held against reads_a_card.expected. */
+/* Sees that library and header belong together. Fits document 01's Table 3 through the C header, without ends and then between
+   free ones, and writes its card each time; checks the free one, reads it back and takes readings off it; then a log's mean and a
+   log with too few good bytes, a sheet with two holes mended and put back, and a book of two rooms with a reading off the card that
+   it holds for one of them. What it prints is held against reads_a_card.expected. */
 
 #include <stdio.h>
 
@@ -18,6 +18,12 @@ int main(void)
     uint16_t read_minutes[KAIHVETO_MOST_KNOTS];
     int16_t read_ordinates[KAIHVETO_MOST_KNOTS];
     int32_t read_slopes[KAIHVETO_MOST_KNOTS], read_curvatures[KAIHVETO_MOST_KNOTS];
+
+    if (kaihveto_version() != KAIHVETO_VERSION) {
+        printf("the library is of another version than the header\n");
+        return 1;
+    }
+    printf("version %u.%u\n", (unsigned)(kaihveto_version() >> 16), (unsigned)(kaihveto_version() & 65535));
 
     kaihveto_fit_answer fit = kaihveto_fit(minutes, KNOTS, ordinates, KNOTS, slopes, KNOTS, curvatures, KNOTS);
     printf("fit without ends: %u at %u\n", fit.number, fit.place);
