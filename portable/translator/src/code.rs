@@ -59,6 +59,27 @@ pub struct Function {
     pub body: Body,
 }
 
+impl Function {
+    /// How many parameters have a copy in memory, which is what the code then uses: these copies are the first locals behind the parameters, and the first that is written.
+    pub fn copies(&self) -> usize {
+        let Body::Code(code) = &self.body else { return 0 };
+        let is_copy = |(k, s): &(usize, &Stmt)| {
+            let at = self.params + 1 + k;
+            matches!(s, Stmt::Assign(Expr::Local(x), Expr::Local(y)) if *x == at && (1..=self.params).contains(y) && self.slots[at])
+        };
+        code.iter().enumerate().take_while(is_copy).count()
+    }
+
+    /// The parameter that a local is the copy of.
+    pub fn copy_of(&self, x: usize) -> Option<usize> {
+        let (Body::Code(code), true) = (&self.body, x > self.params && x <= self.params + self.copies()) else { return None };
+        match &code[x - self.params - 1] {
+            Stmt::Assign(_, Expr::Local(y)) => Some(*y),
+            _ => None,
+        }
+    }
+}
+
 pub struct Program {
     pub functions: BTreeMap<String, Function>,
     pub shapes: BTreeMap<String, Shape>,

@@ -30,7 +30,8 @@ const MOST_OPERATIONS: usize = 10;
 
 pub fn ready<'a>(types: &'a Types, program: &'a Program, f: &'a Function, bindings: usize, first_table: usize) -> Ready<'a> {
     let Body::Code(code) = &f.body else { unreachable!("a foreign function has no code") };
-    let mut scope = Scope { types, program, locals: &f.locals, slots: f.slots.clone(), params: f.params, named: f.params + 1 + bindings };
+    let mut scope =
+        Scope { types, program, locals: &f.locals, slots: f.slots.clone(), params: f.params, named: f.params + 1 + f.copies() + bindings };
     let mut code = code.clone();
     scope.merge_parameters(&mut code);
     let mut before = vec![];

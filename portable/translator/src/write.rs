@@ -13,9 +13,10 @@ pub fn local_names(names: &Names, symbol: &str, f: &Function, globals: &BTreeSet
     let mut all = vec!["result".to_string()];
     for i in 1..f.locals.len() {
         let number = if i <= f.params { format!("a{i}") } else { format!("v{i}") };
-        let source = match i <= f.params {
-            true => params.get(i - 1).filter(|_| params.len() == f.params),
-            false => bound.get(i - f.params - 1),
+        let source = match (i <= f.params, f.copy_of(i)) {
+            (true, _) => params.get(i - 1).filter(|_| params.len() == f.params),
+            (_, Some(parameter)) => params.get(parameter - 1),
+            (_, None) => bound.get(i - f.params - f.copies() - 1),
         };
         let name = source.map_or(number.clone(), |name| safe(name));
         let taken = |name: &String| all.contains(name) || globals.contains(name);
@@ -47,14 +48,21 @@ struct Enclosing {
     jumped_to: bool,
 }
 
-/// The text as an operand: in brackets, unless it is a name, a number, a call or a part of one.
+/// The text as an operand: in brackets, unless it is a name, a number, a call, a part of one, or a cast of such.
 fn atom(text: String) -> String {
-    let plain = text.chars().all(|c| c.is_ascii_alphanumeric() || "_.[]>".contains(c)) || text.ends_with(')') && whole_call(&text);
-    if plain && !text.starts_with('-') || text.chars().all(|c| c.is_ascii_alphanumeric() || "_.[]->".contains(c)) && !text.starts_with('-')
-    {
+    if is_atom(&text) {
         text
     } else {
         format!("({text})")
+    }
+}
+
+fn is_atom(text: &str) -> bool {
+    let number_cast =
+        text.strip_prefix("(uint").or(text.strip_prefix("(double")).and_then(|rest| rest.split_once(')')).map(|(_, rest)| rest);
+    match number_cast {
+        Some(rest) => is_atom(rest) || rest.starts_with('(') && whole_call(&format!("f{rest}")),
+        None => text.chars().all(|c| c.is_ascii_alphanumeric() || "_.[]>-".contains(c)) && !text.starts_with('-') || whole_call(text),
     }
 }
 
