@@ -1,6 +1,8 @@
-/* The library for a process that cannot link it: takes calls on standard input and writes their answers on standard output, each as it lies in the memory of a
-   little-endian machine. A call is a letter and its arguments in the order of kaihveto.h: a number in 8 bytes, a list as its length in 8 bytes and its elements. An
-   answer is the struct, and then each list that the function may write to. It ends with 1 and leaves the answer unfinished where a byte before or behind a list was written. */
+/* The library for a process that cannot link it: takes calls on standard input and writes their answers on
+   standard output, every number in little-endian bytes, whatever the order of the machine is. A call is a letter
+   and its arguments in the order of kaihveto.h: a number in 8 bytes, a list as its length in 8 bytes and its
+   elements. An answer is the struct, and then each list that the function may write to. It ends with 1 and leaves
+   the answer unfinished where a byte before or behind a list was written. */
 #include "kaihveto.h"
 
 #include <stdio.h>
@@ -11,10 +13,12 @@
 enum { GUARD = 64, PAINT = 0xa5 };
 static uint8_t paint[GUARD];
 
+/* A list whose elements are numbers of so many bytes each, or some such numbers. */
 struct list {
     void *first;
     size_t length;
     size_t bytes;
+    size_t width;
 };
 
 static void take(void *to, size_t bytes) {
@@ -27,22 +31,49 @@ static void give(const void *from, size_t bytes) {
         exit(1);
 }
 
+/* Little-endian bytes become numbers of this machine, where they lie. */
+static void to_numbers(uint8_t *at, size_t bytes, size_t width) {
+    for (const uint8_t *end = at + bytes; width > 1 && at < end; at += width) {
+        uint32_t wide = 0;
+        for (size_t i = 0; i < width; i++)
+            wide |= (uint32_t)at[i] << (8 * i);
+        uint16_t narrow = (uint16_t)wide;
+        memcpy(at, width == 2 ? (void *)&narrow : (void *)&wide, width);
+    }
+}
+
+/* And back. */
+static void to_bytes(uint8_t *at, size_t bytes, size_t width) {
+    for (const uint8_t *end = at + bytes; width > 1 && at < end; at += width) {
+        uint32_t wide = 0;
+        uint16_t narrow = 0;
+        memcpy(width == 2 ? (void *)&narrow : (void *)&wide, at, width);
+        for (size_t i = 0; i < width; i++)
+            at[i] = (uint8_t)((narrow | wide) >> (8 * i));
+    }
+}
+
 static uint64_t number(void) {
-    uint64_t n;
-    take(&n, sizeof n);
+    uint8_t bytes[8];
+    uint64_t n = 0;
+    take(bytes, sizeof bytes);
+    for (size_t i = 0; i < sizeof bytes; i++)
+        n |= (uint64_t)bytes[i] << (8 * i);
     return n;
 }
 
 static double real(void) {
+    uint64_t bits = number();
     double x;
-    take(&x, sizeof x);
+    memcpy(&x, &bits, sizeof x);
     return x;
 }
 
-static struct list list(size_t width) {
+static struct list list_of(size_t numbers, size_t width) {
     struct list l;
-    l.length = number();
-    l.bytes = l.length * width;
+    l.length = (size_t)number();
+    l.bytes = l.length * numbers * width;
+    l.width = width;
     uint8_t *guarded = malloc(l.bytes + 2 * GUARD);
     if (guarded == NULL)
         exit(1);
@@ -50,7 +81,12 @@ static struct list list(size_t width) {
     memcpy(guarded + GUARD + l.bytes, paint, GUARD);
     l.first = guarded + GUARD;
     take(l.first, l.bytes);
+    to_numbers(l.first, l.bytes, width);
     return l;
+}
+
+static struct list list(size_t width) {
+    return list_of(1, width);
 }
 
 static void drop(struct list l) {
@@ -60,8 +96,16 @@ static void drop(struct list l) {
     free(guarded);
 }
 
+/* The list is dropped next: nothing else is done with it once it is given back. */
 static void give_back(struct list l) {
+    to_bytes(l.first, l.bytes, l.width);
     give(l.first, l.bytes);
+}
+
+/* Every answer is a struct of numbers of 4 bytes. */
+static void give_answer(void *answer, size_t bytes) {
+    to_bytes(answer, bytes, 4);
+    give(answer, bytes);
 }
 
 int main(void) {
@@ -74,7 +118,7 @@ int main(void) {
             uint64_t minute = number();
             a = list(1);
             kaihveto_mean_answer r = kaihveto_mean((uint16_t)minute, a.first, a.length);
-            give(&r, sizeof r);
+            give_answer(&r, sizeof r);
             drop(a);
             break;
         }
@@ -92,7 +136,7 @@ int main(void) {
                 r = kaihveto_fit_ends(a.first, a.length, b.first, b.length, c.first, c.length, d.first, d.length, (uint16_t)left,
                                       left_slope, left_curvature, (uint16_t)right, right_slope, right_curvature);
             }
-            give(&r, sizeof r);
+            give_answer(&r, sizeof r);
             give_back(c), give_back(d);
             drop(a), drop(b), drop(c), drop(d);
             break;
@@ -103,7 +147,7 @@ int main(void) {
             e = list(1);
             kaihveto_write_answer r = kaihveto_write(a.first, a.length, b.first, b.length, c.first, c.length, d.first, d.length,
                                                      (uint16_t)left, (uint16_t)right, e.first, e.length);
-            give(&r, sizeof r);
+            give_answer(&r, sizeof r);
             give_back(e);
             drop(a), drop(b), drop(c), drop(d), drop(e);
             break;
@@ -111,7 +155,7 @@ int main(void) {
         case 'c': {
             a = list(1);
             kaihveto_card_answer r = kaihveto_check(a.first, a.length);
-            give(&r, sizeof r);
+            give_answer(&r, sizeof r);
             drop(a);
             break;
         }
@@ -119,7 +163,7 @@ int main(void) {
             e = list(1), a = list(2), b = list(2), c = list(4), d = list(4);
             kaihveto_card_answer r =
                 kaihveto_read(e.first, e.length, a.first, a.length, b.first, b.length, c.first, c.length, d.first, d.length);
-            give(&r, sizeof r);
+            give_answer(&r, sizeof r);
             give_back(a), give_back(b), give_back(c), give_back(d);
             drop(a), drop(b), drop(c), drop(d), drop(e);
             break;
@@ -128,7 +172,7 @@ int main(void) {
             a = list(1);
             uint64_t minute = number();
             kaihveto_reading_answer r = kaihveto_reading(a.first, a.length, (uint16_t)minute);
-            give(&r, sizeof r);
+            give_answer(&r, sizeof r);
             drop(a);
             break;
         }
@@ -138,7 +182,7 @@ int main(void) {
             a = list(4), b = list(4), c = list(4);
             kaihveto_table_answer r =
                 kaihveto_table(e.first, e.length, (uint16_t)from, a.first, a.length, b.first, b.length, c.first, c.length);
-            give(&r, sizeof r);
+            give_answer(&r, sizeof r);
             give_back(a), give_back(b), give_back(c);
             drop(a), drop(b), drop(c), drop(e);
             break;
@@ -146,16 +190,16 @@ int main(void) {
         case 'a': {
             e = list(1), c = list(4), d = list(4);
             kaihveto_refit_answer r = kaihveto_refit(e.first, e.length, c.first, c.length, d.first, d.length);
-            give(&r, sizeof r);
+            give_answer(&r, sizeof r);
             give_back(c), give_back(d);
             drop(c), drop(d), drop(e);
             break;
         }
         case 'h': {
-            a = list(2), b = list(2), c = list(4), d = list(4), e = list(sizeof(kaihveto_change));
+            a = list(2), b = list(2), c = list(4), d = list(4), e = list_of(sizeof(kaihveto_change) / 4, 4);
             kaihveto_mend_answer r =
                 kaihveto_mend(a.first, a.length, b.first, b.length, c.first, c.length, d.first, d.length, e.first, e.length);
-            give(&r, sizeof r);
+            give_answer(&r, sizeof r);
             give_back(b), give_back(c), give_back(d), give_back(e);
             drop(a), drop(b), drop(c), drop(d), drop(e);
             break;
@@ -164,7 +208,7 @@ int main(void) {
             a = list(1);
             uint64_t room = number();
             kaihveto_book_find_answer r = kaihveto_book_find(a.first, a.length, (uint16_t)room);
-            give(&r, sizeof r);
+            give_answer(&r, sizeof r);
             drop(a);
             break;
         }
@@ -173,7 +217,7 @@ int main(void) {
             uint64_t room = number();
             e = list(1);
             kaihveto_book_put_answer r = kaihveto_book_put(a.first, a.length, (uint16_t)room, e.first, e.length);
-            give(&r, sizeof r);
+            give_answer(&r, sizeof r);
             give_back(a);
             drop(a), drop(e);
             break;

@@ -1,12 +1,12 @@
-//! Links libkaihveto.a from the folder that KAIHVETO_LIB names, or from where `rt staticlib kaihveto` writes it.
-//! Where there is none yet, the package still builds, without the comparison (the cfg `linked` is then off). The archive is for x86-64: on another processor
-//! nothing is linked, and the calls go to a program that is (src/far.rs).
+//! Links libkaihveto.a from the folder that KAIHVETO_LIB names, or from where `rt staticlib kaihveto` writes it, and
+//! then turns the cfg `archive` on. The archive is for x86-64: on another processor, or where there is none yet,
+//! nothing is linked, and calls can only go to a program that is (src/far.rs).
 
 use std::env;
 use std::path::PathBuf;
 
 fn main() {
-    println!("cargo:rustc-check-cfg=cfg(linked)");
+    println!("cargo:rustc-check-cfg=cfg(archive)");
     println!("cargo:rerun-if-env-changed=KAIHVETO_LIB");
     println!("cargo:rerun-if-changed=build.rs");
     let package = PathBuf::from(env::var_os("CARGO_MANIFEST_DIR").expect("cargo names the package's folder"));
@@ -16,11 +16,9 @@ fn main() {
     };
     let archive = folder.join("libkaihveto.a");
     println!("cargo:rerun-if-changed={}", archive.display());
-    if archive.is_file() {
-        println!("cargo:rustc-cfg=linked");
-        if env::var("CARGO_CFG_TARGET_ARCH").as_deref() == Ok("x86_64") {
-            println!("cargo:rustc-link-search=native={}", folder.display());
-            println!("cargo:rustc-link-lib=static=kaihveto");
-        }
+    if archive.is_file() && env::var("CARGO_CFG_TARGET_ARCH").as_deref() == Ok("x86_64") {
+        println!("cargo:rustc-cfg=archive");
+        println!("cargo:rustc-link-search=native={}", folder.display());
+        println!("cargo:rustc-link-lib=static=kaihveto");
     }
 }

@@ -3,6 +3,7 @@
 //! behind n, past the end or on a refusal shows.
 
 use crate::boundary;
+use crate::random::Random;
 use crate::reference::{self, End, Refusal};
 use std::collections::BTreeMap;
 use std::fmt::Write as _;
@@ -13,15 +14,30 @@ const SHOWN: u64 = 20;
 /// Places of pattern before and behind each lent list.
 const GUARD: usize = 5;
 
-#[derive(Default)]
+/// Of a part of the questions one in so many is compared.
+const PART: usize = 10;
+
 pub struct Tally {
     pub comparisons: u64,
     pub differences: u64,
     /// How often each number of refusal was the reference's answer, by the function that was called.
     pub met: BTreeMap<(&'static str, u32), u64>,
+    /// Draws the questions that are compared, where it is a part of them.
+    draws: Option<Random>,
 }
 
 impl Tally {
+    /// Of all questions, or of a part of them that is drawn by the seed. The groups' own seeds are small: the draws
+    /// have others.
+    pub fn new(part: Option<u64>) -> Tally {
+        Tally { comparisons: 0, differences: 0, met: BTreeMap::new(), draws: part.map(|seed| Random::new(!seed)) }
+    }
+
+    /// Whether the question that is next is compared.
+    fn takes_the_next(&mut self) -> bool {
+        self.draws.as_mut().map_or(true, |draws| draws.once_in(PART))
+    }
+
     fn count<A: PartialEq + std::fmt::Debug>(
         &mut self,
         function: &'static str,
@@ -93,6 +109,9 @@ fn number<T>(answer: &Result<T, Refusal>) -> u32 {
 }
 
 pub fn mean(tally: &mut Tally, first: u16, log: &[u8]) {
+    if !tally.takes_the_next() {
+        return;
+    }
     let wanted = match reference::mean(first, log) {
         Ok(reference::Mean { minute, ordinate, good, faults }) => {
             boundary::Mean { minute: minute.into(), ordinate, good, faults, ..Default::default() }
@@ -111,6 +130,9 @@ fn fitted(answer: &Result<(), Refusal>) -> boundary::Fitted {
 
 /// The fit without ends, into lists of these lengths.
 pub fn fit(tally: &mut Tally, minutes: &[u16], ordinates: &[i16], lengths: [usize; 2]) {
+    if !tally.takes_the_next() {
+        return;
+    }
     let lists = lengths.map(i32_pattern);
     let [mut slopes, mut curvatures] = lists.clone();
     let ours = boundary::fit(minutes, ordinates, lent(&mut slopes), lent(&mut curvatures));
@@ -123,6 +145,9 @@ pub fn fit(tally: &mut Tally, minutes: &[u16], ordinates: &[i16], lengths: [usiz
 
 /// The fit with ends, into lists of these lengths.
 pub fn fit_ends(tally: &mut Tally, minutes: &[u16], ordinates: &[i16], lengths: [usize; 2], left: End, right: End) {
+    if !tally.takes_the_next() {
+        return;
+    }
     let lists = lengths.map(i32_pattern);
     let [mut slopes, mut curvatures] = lists.clone();
     let handed = |end: End| boundary::End { code: end.code, slope: end.slope, curvature: end.curvature };
@@ -136,6 +161,9 @@ pub fn fit_ends(tally: &mut Tally, minutes: &[u16], ordinates: &[i16], lengths: 
 
 /// The writer, into a buffer of this length.
 pub fn write(tally: &mut Tally, minutes: &[u16], ordinates: &[i16], slopes: &[i32], curvatures: &[i32], codes: [u16; 2], length: usize) {
+    if !tally.takes_the_next() {
+        return;
+    }
     let [left, right] = codes;
     let mut buffer = u8_pattern(length);
     let mut wanted_buffer = buffer.clone();
@@ -160,12 +188,18 @@ fn checked(answer: &Result<reference::Card, Refusal>) -> boundary::Checked {
 }
 
 pub fn check(tally: &mut Tally, card: &[u8]) {
+    if !tally.takes_the_next() {
+        return;
+    }
     let wanted = reference::check(card);
     tally.count("check", number(&wanted), boundary::check(card), checked(&wanted), true, || hex(card));
 }
 
 /// The reader, into lists of these lengths.
 pub fn read(tally: &mut Tally, card: &[u8], lengths: [usize; 4]) {
+    if !tally.takes_the_next() {
+        return;
+    }
     let lists = || (u16_pattern(lengths[0]), i16_pattern(lengths[1]), i32_pattern(lengths[2]), i32_pattern(lengths[3]));
     let mut ours = lists();
     let mut wanted = lists();
@@ -184,13 +218,16 @@ fn read_off(answer: Result<reference::Reading, Refusal>) -> boundary::Reading {
     }
 }
 
-fn compare_reading(tally: &mut Tally, card: &[u8], minute: u16, wanted: Result<reference::Reading, Refusal>) {
-    let wanted = read_off(wanted);
+fn compare_reading(tally: &mut Tally, card: &[u8], minute: u16, wanted: impl FnOnce() -> Result<reference::Reading, Refusal>) {
+    if !tally.takes_the_next() {
+        return;
+    }
+    let wanted = read_off(wanted());
     tally.count("reading", wanted.number, boundary::reading(card, minute), wanted, true, || format!("at {minute} off {}", hex(card)));
 }
 
 pub fn reading(tally: &mut Tally, card: &[u8], minute: u16) {
-    compare_reading(tally, card, minute, reference::reading(card, minute));
+    compare_reading(tally, card, minute, || reference::reading(card, minute));
 }
 
 /// Every minute of a card, one before, one behind, and the two ends of all minutes.
@@ -202,12 +239,15 @@ pub fn readings(tally: &mut Tally, card: &[u8]) {
     let (first, last) = (sound.minutes[0], sound.minutes[sound.minutes.len() - 1]);
     let (from, to) = (first.saturating_sub(1), last.saturating_add(1));
     for minute in (from..=to).chain([0, u16::MAX]) {
-        compare_reading(tally, card, minute, reference::reading_of(&sound, minute));
+        compare_reading(tally, card, minute, || reference::reading_of(&sound, minute));
     }
 }
 
 /// The table, into lists of these lengths.
 pub fn table(tally: &mut Tally, card: &[u8], from: u16, lengths: [usize; 3]) {
+    if !tally.takes_the_next() {
+        return;
+    }
     let mut ours = lengths.map(i32_pattern);
     let mut wanted = ours.clone();
     let [values, slopes, curvatures] = &mut ours;
@@ -223,6 +263,9 @@ pub fn table(tally: &mut Tally, card: &[u8], from: u16, lengths: [usize; 3]) {
 
 /// A card fitted anew, into lists of these lengths.
 pub fn refit(tally: &mut Tally, card: &[u8], lengths: [usize; 2]) {
+    if !tally.takes_the_next() {
+        return;
+    }
     let lists = lengths.map(i32_pattern);
     let [mut slopes, mut curvatures] = lists.clone();
     let ours = boundary::refit(card, lent(&mut slopes), lent(&mut curvatures));
@@ -244,6 +287,9 @@ fn as_the_reference_has_it(change: boundary::Change) -> reference::Change {
 /// A sheet mended, into lists for slopes and curvatures and a list of changes of these lengths. What the library's own list of
 /// changes puts back must be the sheet as it came, after a refusal too.
 pub fn mend(tally: &mut Tally, minutes: &[u16], sheet: &[i16], lengths: [usize; 2], room: usize) {
+    if !tally.takes_the_next() {
+        return;
+    }
     let lists = lengths.map(i32_pattern);
     let [mut slopes, mut curvatures] = lists.clone();
     let mut ordinates = within_a_pattern(i16_pattern(sheet.len()), sheet);
@@ -278,6 +324,9 @@ fn shown(buffer: &[u8]) -> String {
 
 /// A room looked up.
 pub fn book_find(tally: &mut Tally, book: &[u8], room: u16) {
+    if !tally.takes_the_next() {
+        return;
+    }
     let wanted = match reference::book_find(book, room) {
         Ok(reference::Part { start, length }) => boundary::Spot { start, length, ..Default::default() },
         Err(Refusal { number, place }) => boundary::Spot { number, place, ..Default::default() },
@@ -285,17 +334,20 @@ pub fn book_find(tally: &mut Tally, book: &[u8], room: u16) {
     tally.count("book_find", wanted.number, boundary::book_find(book, room), wanted, true, || format!("of {room} in {}", shown(book)));
 }
 
-/// A card put in; the buffer is left as the reference leaves it. Whether it was accepted.
+/// A card put in; the buffer is left as the reference leaves it, though the library was not asked. Whether it was
+/// accepted.
 pub fn book_put(tally: &mut Tally, book: &mut [u8], room: u16, card: &[u8]) -> bool {
-    let mut ours = within_a_pattern(u8_pattern(book.len()), book);
-    let mut wanted = ours.clone();
-    let answer = boundary::book_put(lent(&mut ours), room, card);
+    let mut wanted = within_a_pattern(u8_pattern(book.len()), book);
     let wanted_answer = match reference::book_put(lent(&mut wanted), room, card) {
         Ok(bytes) => boundary::Used { bytes, ..Default::default() },
         Err(Refusal { number, place }) => boundary::Used { number, place, ..Default::default() },
     };
-    let input = || format!("of {} for {room} into {}", shown(card), shown(book));
-    tally.count("book_put", wanted_answer.number, answer, wanted_answer, ours == wanted, input);
+    if tally.takes_the_next() {
+        let mut ours = within_a_pattern(u8_pattern(book.len()), book);
+        let answer = boundary::book_put(lent(&mut ours), room, card);
+        let input = || format!("of {} for {room} into {}", shown(card), shown(book));
+        tally.count("book_put", wanted_answer.number, answer, wanted_answer, ours == wanted, input);
+    }
     book.copy_from_slice(lent(&mut wanted));
     wanted_answer.number == 0
 }
@@ -303,6 +355,9 @@ pub fn book_put(tally: &mut Tally, book: &mut [u8], room: u16, card: &[u8]) -> b
 /// The part of the book that the library hands back for a room, beside the card that was put in for it; and the library's reading
 /// off that part, beside the reference's off that card.
 pub fn reading_in_book(tally: &mut Tally, book: &[u8], room: u16, card: &[u8], minute: u16) {
+    if !tally.takes_the_next() {
+        return;
+    }
     let spot = boundary::book_find(book, room);
     let (start, end) = (spot.start as usize, spot.start as usize + spot.length as usize);
     let part = book.get(start..end).unwrap_or(&[]);

@@ -1,12 +1,15 @@
-//! The library's functions on a machine that cannot link them, since the archive is for x86-64: each call goes to tests/c/far.c, which is linked with the archive and
-//! runs in a process of its own. KAIHVETO_FAR names that program, and KAIHVETO_RUN the command that runs it.
+//! The library's functions by a program of its own, for what this process cannot link: the archive on another
+//! processor than x86-64, or the library compiled for another one. Each call goes to tests/c/far.c, which is linked
+//! with the library. KAIHVETO_FAR names that program, and KAIHVETO_RUN the command that runs it, where it does not
+//! run by itself.
 
 use crate::boundary::{Change, Checked, Fitted, Mean, Mended, Reading, Refitted, Spot, Tabled, Used, Written};
 use std::env;
+use std::ffi::{OsStr, OsString};
 use std::io::{BufReader, Read, Write};
 use std::mem::{size_of, MaybeUninit};
 use std::process::{ChildStdin, ChildStdout, Command, Stdio};
-use std::sync::{Mutex, MutexGuard};
+use std::sync::{Mutex, MutexGuard, OnceLock};
 
 struct Far {
     calls: ChildStdin,
@@ -15,9 +18,27 @@ struct Far {
 
 static FAR: Mutex<Option<Far>> = Mutex::new(None);
 
+fn named(variable: &str) -> Option<OsString> {
+    env::var_os(variable).filter(|named| !named.is_empty())
+}
+
+/// The far program. Where there is one it answers, and no archive that is linked.
+pub fn program() -> Option<&'static OsStr> {
+    static PROGRAM: OnceLock<Option<OsString>> = OnceLock::new();
+    PROGRAM.get_or_init(|| named("KAIHVETO_FAR")).as_deref()
+}
+
 fn start() -> Far {
-    let named = |name: &str| env::var_os(name).unwrap_or_else(|| panic!("{name} is not set: tests/run sets it"));
-    let child = Command::new(named("KAIHVETO_RUN")).arg(named("KAIHVETO_FAR")).stdin(Stdio::piped()).stdout(Stdio::piped()).spawn();
+    let program = program().expect("KAIHVETO_FAR names the far program");
+    let mut command = match named("KAIHVETO_RUN") {
+        Some(runner) => {
+            let mut command = Command::new(runner);
+            command.arg(program);
+            command
+        }
+        None => Command::new(program),
+    };
+    let child = command.stdin(Stdio::piped()).stdout(Stdio::piped()).spawn();
     let mut child = child.expect("the far program starts");
     let calls = child.stdin.take().expect("its input is a pipe");
     let answers = BufReader::new(child.stdout.take().expect("its output is a pipe"));

@@ -1,5 +1,6 @@
 //! Without words: compares the library with the reference on many inputs, and ends with 1 where they differ or do not meet a number of
 //! refusal that they should.
+//! `some SEED`: the same on about a tenth of these inputs, drawn by the seed.
 //! `vectors DIR`: runs the reference alone on the vectors of the two programs.
 //! `list PROGRAM`: prints what the reference lists for standard input, as the lister or the fitter.
 //! `cases FILE`: prints the lines of the program `cases`, which are the reference's answers to a file of questions.
@@ -9,15 +10,23 @@ use std::io::Read;
 use std::path::Path;
 use std::process::ExitCode;
 
-#[cfg(linked)]
-fn compare() -> bool {
-    independent::groups::all()
+fn compare(part: Option<u64>) -> bool {
+    let Some(library) = independent::boundary::library() else {
+        eprintln!("no library: run `rt staticlib kaihveto`, or name libkaihveto.a's folder in KAIHVETO_LIB, or a program in KAIHVETO_FAR");
+        return false;
+    };
+    println!("the library is {library}");
+    independent::groups::run(part)
 }
 
-#[cfg(not(linked))]
-fn compare() -> bool {
-    eprintln!("no libkaihveto.a was found when this was built: run `rt staticlib kaihveto`, or name its folder in KAIHVETO_LIB");
-    false
+fn some(seed: &str) -> bool {
+    match seed.parse() {
+        Ok(seed) => compare(Some(seed)),
+        Err(_) => {
+            eprintln!("{seed} is no number");
+            false
+        }
+    }
 }
 
 fn vectors(folder: &str) -> bool {
@@ -71,14 +80,15 @@ fn main() -> ExitCode {
     let words: Vec<String> = std::env::args().skip(1).collect();
     let words: Vec<&str> = words.iter().map(String::as_str).collect();
     let good = match words[..] {
-        [] => compare(),
+        [] => compare(None),
+        ["some", seed] => some(seed),
         ["vectors", folder] => vectors(folder),
         ["list", "lister"] => list(independent::reference::lister),
         ["list", "fitter"] => list(independent::reference::fitter),
         ["cases", file] => cases(file),
         ["fitter", file, random, ref command @ ..] if !command.is_empty() => fitter(file, random, command),
         _ => {
-            eprintln!("usage: independent [vectors DIR | list lister | list fitter | cases FILE | fitter FILE N COMMAND ..]");
+            eprintln!("usage: independent [some SEED | vectors DIR | list lister | list fitter | cases FILE | fitter FILE N COMMAND ..]");
             return ExitCode::from(2);
         }
     };
