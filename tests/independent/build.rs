@@ -1,6 +1,6 @@
-//! Links libkaihveto.a from the folder that KAIHVETO_LIB names, or from where `rt staticlib kaihveto` writes it, and
-//! then turns the cfg `archive` on. The archive is for x86-64: on another processor, or where there is none yet,
-//! nothing is linked, and calls can only go to a program that is (src/far.rs).
+//! Links libkaihveto.a from the folder that KAIHVETO_LIB names, or from target/native, where tests/run puts the library
+//! as C compiled for this processor, and then turns the cfg `archive` on. Where there is none yet nothing is linked, and
+//! calls can only go to a program that is (src/far.rs).
 
 use std::env;
 use std::path::PathBuf;
@@ -12,11 +12,11 @@ fn main() {
     let package = PathBuf::from(env::var_os("CARGO_MANIFEST_DIR").expect("cargo names the package's folder"));
     let folder = match env::var_os("KAIHVETO_LIB") {
         Some(named) => PathBuf::from(named),
-        None => package.join("../../target/staticlib"),
+        None => package.join("../../target/native"),
     };
     let archive = folder.join("libkaihveto.a");
     println!("cargo:rerun-if-changed={}", archive.display());
-    if archive.is_file() && env::var("CARGO_CFG_TARGET_ARCH").as_deref() == Ok("x86_64") {
+    if archive.is_file() {
         println!("cargo:rustc-cfg=archive");
         println!("cargo:rustc-link-search=native={}", folder.display());
         println!("cargo:rustc-link-lib=static=kaihveto");

@@ -12,7 +12,7 @@ use std::process::ExitCode;
 
 fn compare(part: Option<u64>) -> bool {
     let Some(library) = independent::boundary::library() else {
-        eprintln!("no library: run `rt staticlib kaihveto`, or name libkaihveto.a's folder in KAIHVETO_LIB, or a program in KAIHVETO_FAR");
+        eprintln!("no library: run tests/run, or name libkaihveto.a's folder in KAIHVETO_LIB, or a program in KAIHVETO_FAR");
         return false;
     };
     println!("the library is {library}");
