@@ -341,15 +341,13 @@ static bool record_is_at(list_u8 list, uint64_t at, uint16_t kind, uint16_t leng
 static answer_Judged answer_first(answer_Judged step, answer_Judged next)
 {
     uint32_t number, place;
-    answer_Judged v5;
     if (step.tag == answer_Judged_Accepted) {
-        v5 = next;
+        return next;
     } else {
         number = step.Refused.f0;
         place = step.Refused.f1;
-        v5 = (answer_Judged){.Refused = {answer_Judged_Refused, number, place}};
+        return (answer_Judged){.Refused = {answer_Judged_Refused, number, place}};
     }
-    return v5;
 }
 
 /* answer::refuse. "given exactly when". */
@@ -402,81 +400,70 @@ static uint32_t bytes_read_u32(list_u8 list, uint64_t at)
    the sign is refused, so a negative number goes by its complement. */
 static uint16_t bytes_signed16(uint16_t bits)
 {
-    uint16_t v3;
     if (bits < 32768) {
-        v3 = (uint16_t)bits;
+        return (uint16_t)bits;
     } else {
-        v3 = (uint16_t)~(uint16_t)(uint16_t)((uint32_t)65535 - bits);
+        return (uint16_t)~(uint16_t)(uint16_t)((uint32_t)65535 - bits);
     }
-    return v3;
 }
 
 /* bytes::signed32 */
 static uint32_t bytes_signed32(uint32_t bits)
 {
-    uint32_t v3;
     if (bits < 2147483648u) {
-        v3 = (uint32_t)bits;
+        return (uint32_t)bits;
     } else {
-        v3 = (uint32_t)~(uint32_t)(4294967295u - bits);
+        return (uint32_t)~(uint32_t)(4294967295u - bits);
     }
-    return v3;
 }
 
 /* card::Checked::of */
 static card_Checked card_Checked_of(answer_Judged verdict, decode_Card card)
 {
     uint32_t number, place;
-    card_Checked v5;
     if (verdict.tag == answer_Judged_Refused) {
         number = verdict.Refused.f0;
         place = verdict.Refused.f1;
-        v5 = (card_Checked){number, place, 0u, 0u, 0u};
+        return (card_Checked){number, place, 0u, 0u, 0u};
     } else {
-        v5 = (card_Checked){0u, 0u, (uint32_t)card.knots, (uint32_t)card.left, (uint32_t)card.right};
+        return (card_Checked){0u, 0u, (uint32_t)card.knots, (uint32_t)card.left, (uint32_t)card.right};
     }
-    return v5;
 }
 
 /* card::into. 3, the card's, 26: of a card that was opened, and the lengths of four lists. */
 static answer_Judged card_into(opened_Opened opened, uint64_t minutes, uint64_t ordinates, uint64_t slopes, uint64_t curvatures)
 {
-    answer_Judged verdict, v11, v12, v13;
     uint32_t number, place, number_9, place_10;
-    verdict = opened.verdict;
+    answer_Judged v11;
     v11 = knots_same_lengths(minutes, ordinates, slopes, curvatures);
     if (v11.tag == answer_Judged_Refused) {
         number = v11.Refused.f0;
         place = v11.Refused.f1;
-        v12 = (answer_Judged){.Refused = {answer_Judged_Refused, number, place}};
+        return (answer_Judged){.Refused = {answer_Judged_Refused, number, place}};
     } else {
-        if (verdict.tag == answer_Judged_Refused) {
-            number_9 = verdict.Refused.f0;
-            place_10 = verdict.Refused.f1;
-            v13 = (answer_Judged){.Refused = {answer_Judged_Refused, number_9, place_10}};
+        if (opened.verdict.tag == answer_Judged_Refused) {
+            number_9 = opened.verdict.Refused.f0;
+            place_10 = opened.verdict.Refused.f1;
+            return (answer_Judged){.Refused = {answer_Judged_Refused, number_9, place_10}};
         } else {
-            v13 = knots_room(opened.card.knots, minutes);
+            return knots_room(opened.card.knots, minutes);
         }
-        v12 = v13;
     }
-    return v12;
 }
 
 /* card::read. On acceptance n places of each list are written. */
 static card_Checked card_read(list_u8 card, mut_list_u16 minutes, mut_list_u16 ordinates, mut_list_u32 slopes, mut_list_u32 curvatures)
 {
     opened_Opened opened;
-    decode_Card held;
     answer_Judged verdict;
     opened = opened_Opened_by_head(card);
-    held = opened.card;
     verdict = card_into(opened, minutes.length, ordinates.length, slopes.length, curvatures.length);
     if (verdict.tag == answer_Judged_Refused) {
-        return card_Checked_of(verdict, held);
+        return card_Checked_of(verdict, opened.card);
     } else {
     }
-    decode_Card_give(held, (mut_list_u16){minutes.at, minutes.length}, (mut_list_u16){ordinates.at, ordinates.length}, (mut_list_u32){slopes.at, slopes.length}, (mut_list_u32){curvatures.at, curvatures.length});
-    return card_Checked_of(verdict, held);
+    decode_Card_give(opened.card, (mut_list_u16){minutes.at, minutes.length}, (mut_list_u16){ordinates.at, ordinates.length}, (mut_list_u32){slopes.at, slopes.length}, (mut_list_u32){curvatures.at, curvatures.length});
+    return card_Checked_of(verdict, opened.card);
 }
 
 /* card_bytes::due. A record that is due at an offset. */
@@ -485,16 +472,14 @@ static answer_Judged card_bytes_due(list_u8 list, uint64_t at, uint16_t kind, ui
     uint64_t place;
     record_Found v6;
     record_Cursor v7;
-    answer_Judged v8;
     v7 = record_Cursor_new(at);
     v6 = record_Cursor_read(v7, list, kind, length);
     if (v6.tag == record_Found_Bad) {
         place = v6.Bad.f0;
-        v8 = (answer_Judged){.Refused = {answer_Judged_Refused, 14u, (uint32_t)place}};
+        return (answer_Judged){.Refused = {answer_Judged_Refused, 14u, (uint32_t)place}};
     } else {
-        v8 = (answer_Judged){.tag = answer_Judged_Accepted};
+        return (answer_Judged){.tag = answer_Judged_Accepted};
     }
-    return v8;
 }
 
 /* card_bytes::end_due. The end, and nothing that follows it. */
@@ -502,17 +487,16 @@ static answer_Judged card_bytes_end_due(list_u8 list, uint64_t n)
 {
     uint64_t size;
     uint32_t number, place;
-    answer_Judged v7, v9;
+    answer_Judged v7;
     size = 14ull + (16ull * n);
     v7 = card_bytes_due(list, 10ull + (16ull * n), 3, 0);
     if (v7.tag == answer_Judged_Refused) {
         number = v7.Refused.f0;
         place = v7.Refused.f1;
-        v9 = (answer_Judged){.Refused = {answer_Judged_Refused, number, place}};
+        return (answer_Judged){.Refused = {answer_Judged_Refused, number, place}};
     } else {
-        v9 = answer_refuse(14u, (uint32_t)size, size < list.length);
+        return answer_refuse(14u, (uint32_t)size, size < list.length);
     }
-    return v9;
 }
 
 /* card_bytes::head_due. The head of a card, of the kind that it has for such cards. */
@@ -545,16 +529,15 @@ static answer_Judged card_bytes_knots_due(list_u8 list, uint64_t n)
 static answer_Judged card_bytes_records_due(list_u8 list, uint64_t n)
 {
     uint32_t number, place;
-    answer_Judged v5, v6;
+    answer_Judged v5;
     v5 = card_bytes_knots_due(list, n);
     if (v5.tag == answer_Judged_Refused) {
         number = v5.Refused.f0;
         place = v5.Refused.f1;
-        v6 = (answer_Judged){.Refused = {answer_Judged_Refused, number, place}};
+        return (answer_Judged){.Refused = {answer_Judged_Refused, number, place}};
     } else {
-        v6 = card_bytes_end_due(list, n);
+        return card_bytes_end_due(list, n);
     }
-    return v6;
 }
 
 /* card_listing::list_card. The listing at the front of a buffer. */
@@ -584,13 +567,11 @@ static card_listing_Listed card_listing_list_card(list_u8 card, mut_list_u8 text
    complement. */
 static uint64_t decimal_magnitude(uint64_t number)
 {
-    uint64_t v3;
     if (s64(number) < s64(0ull)) {
-        v3 = (uint64_t)((uint64_t)~number) + 1ull;
+        return (uint64_t)((uint64_t)~number) + 1ull;
     } else {
-        v3 = (uint64_t)number;
+        return (uint64_t)number;
     }
-    return v3;
 }
 
 /* decimal::put_byte */
@@ -661,19 +642,13 @@ static uint64_t decimal_put_words(mut_list_u8 text, uint64_t at, list_u8 words)
 static void decode_Card_give(decode_Card self, mut_list_u16 minutes, mut_list_u16 ordinates, mut_list_u32 slopes, mut_list_u32 curvatures)
 {
     uint64_t n, place;
-    array_u16_64 xs, ys;
-    array_u32_64 ms, cs;
     n = self.knots;
-    xs = self.minutes;
-    ys = self.ordinates;
-    ms = self.slopes;
-    cs = self.curvatures;
     place = 0ull;
     while (place < n) {
-        minutes.at[place] = xs.e[place];
-        ordinates.at[place] = ys.e[place];
-        slopes.at[place] = ms.e[place];
-        curvatures.at[place] = cs.e[place];
+        minutes.at[place] = self.minutes.e[place];
+        ordinates.at[place] = self.ordinates.e[place];
+        slopes.at[place] = self.slopes.e[place];
+        curvatures.at[place] = self.curvatures.e[place];
         place = place + 1ull;
     }
     return;
@@ -755,13 +730,11 @@ static array_u8_4096 io_buffer(void)
 /* io::clamp */
 static uint64_t io_clamp(uint64_t got, uint64_t most)
 {
-    uint64_t v4;
     if (s64(0ull) < s64(got)) {
-        v4 = io_least((uint64_t)got, most);
+        return io_least((uint64_t)got, most);
     } else {
-        v4 = 0ull;
+        return 0ull;
     }
-    return v4;
 }
 
 /* io::copy */
@@ -779,13 +752,11 @@ static void io_copy(list_u8 src, uint64_t from, mut_list_u8 dst, uint64_t to, ui
 /* io::least */
 static uint64_t io_least(uint64_t a, uint64_t b)
 {
-    uint64_t v4;
     if (a < b) {
-        v4 = a;
+        return a;
     } else {
-        v4 = b;
+        return b;
     }
-    return v4;
 }
 
 /* io::read_full. Reads until buf is full, the input ends or a read fails, and answers how many bytes it
@@ -881,16 +852,14 @@ static uint64_t jumps_allowance(jumps_Order order, uint64_t square, uint64_t q, 
 /* jumps::cleared. What clears a side of its fraction: h^3 or h^4, and 1 where there is no gap. */
 static uint64_t jumps_cleared(jumps_Order order, uint64_t h)
 {
-    uint64_t v4;
     if (s64(h) < s64(1ull)) {
         return 1ull;
     }
     if (order.tag == jumps_Order_Third) {
-        v4 = (h * h) * h;
+        return (h * h) * h;
     } else {
-        v4 = ((h * h) * h) * h;
+        return ((h * h) * h) * h;
     }
-    return v4;
 }
 
 /* jumps::crossed. Two fractions brought over each other's denominators, and added. */
@@ -928,13 +897,11 @@ static bool jumps_jumps(jumps_Order order, uint64_t square, uint64_t q, uint64_t
    changes its sign, and the fourth does not. */
 static uint64_t jumps_opposed(jumps_Order order, uint64_t mirrored)
 {
-    uint64_t v3;
     if (order.tag == jumps_Order_Third) {
-        v3 = mirrored;
+        return mirrored;
     } else {
-        v3 = 0ull - mirrored;
+        return 0ull - mirrored;
     }
-    return v3;
 }
 
 /* jumps::over. Whether a jump, of either sign, is over what is allowed. */
@@ -950,7 +917,7 @@ static bool jumps_over(uint64_t jump, uint64_t allowed)
    h^4, towards the neighbour on its right. */
 static uint64_t jumps_side(jumps_Order order, uint64_t h, gaps_Knot here, gaps_Knot next)
 {
-    uint64_t y, m, c, y1, m1, c1, rise, v13;
+    uint64_t y, m, c, y1, m1, c1, rise;
     y = here.ordinate;
     m = here.slope;
     c = here.curvature;
@@ -959,11 +926,10 @@ static uint64_t jumps_side(jumps_Order order, uint64_t h, gaps_Knot here, gaps_K
     c1 = next.curvature;
     rise = 4096ull * (y1 - y);
     if (order.tag == jumps_Order_Third) {
-        v13 = ((20ull * rise) - (((12ull * m) + (8ull * m1)) * h)) - ((((3ull * c) - c1) * h) * h);
+        return ((20ull * rise) - (((12ull * m) + (8ull * m1)) * h)) - ((((3ull * c) - c1) * h) * h);
     } else {
-        v13 = ((((16ull * m) + (14ull * m1)) * h) + ((((3ull * c) - (2ull * c1)) * h) * h)) - (30ull * rise);
+        return ((((16ull * m) + (14ull * m1)) * h) + ((((3ull * c) - (2ull * c1)) * h) * h)) - (30ull * rise);
     }
-    return v13;
 }
 
 /* knots::Kind::quintic */
@@ -1246,10 +1212,10 @@ static uint64_t listing_refused_line(mut_list_u8 text, uint64_t at, uint32_t num
 /* lists::asks. "At a free end both; with code 2 the fourth only; with code 1 nothing". */
 static bool lists_asks(knots_Kind kind, jumps_Order order, uint16_t code)
 {
-    bool fourth, v5;
+    bool fourth;
     fourth = kind.fourth;
     if (order.tag == jumps_Order_Third) {
-        v5 = code == 0;
+        return code == 0;
     } else {
         if (code == 0) {
             return fourth;
@@ -1257,9 +1223,8 @@ static bool lists_asks(knots_Kind kind, jumps_Order order, uint16_t code)
         if (code == 2) {
             return fourth;
         }
-        v5 = false;
+        return false;
     }
-    return v5;
 }
 
 /* lists::code_at. The code by which a knot is tested. An inner knot is tested as a free end is. */
@@ -1319,17 +1284,16 @@ static gaps_Knot lists_knot_at(list_u16 ys, list_u32 ms, list_u32 cs, uint64_t i
 /* lists::numbers_sound. "9; 10", of lists that 4, 5 and 6 accept. */
 static answer_Judged lists_numbers_sound(knots_Kind kind, uint16_t left, uint16_t right, list_u16 xs, list_u16 ys, list_u32 ms, list_u32 cs)
 {
-    answer_Judged ranged, v11;
+    answer_Judged ranged;
     uint32_t number, place;
     ranged = knots_in_range(xs, ms, cs);
     if (ranged.tag == answer_Judged_Accepted) {
-        v11 = lists_smooth(kind, left, right, xs, ys, ms, cs);
+        return lists_smooth(kind, left, right, xs, ys, ms, cs);
     } else {
         number = ranged.Refused.f0;
         place = ranged.Refused.f1;
-        v11 = (answer_Judged){.Refused = {answer_Judged_Refused, number, place}};
+        return (answer_Judged){.Refused = {answer_Judged_Refused, number, place}};
     }
-    return v11;
 }
 
 /* lists::rough_at. The number at a knot; 0 where no derivative jumps. */
@@ -1370,31 +1334,28 @@ static answer_Judged lists_smooth(knots_Kind kind, uint16_t left, uint16_t right
 /* lists::sound. "Per knot 4, 5, 6; 9; 10." */
 static answer_Judged lists_sound(knots_Kind kind, uint16_t left, uint16_t right, list_u16 xs, list_u16 ys, list_u32 ms, list_u32 cs)
 {
-    answer_Judged stood, v11;
+    answer_Judged stood;
     uint32_t number, place;
     stood = knots_stand(xs, ys);
     if (stood.tag == answer_Judged_Accepted) {
-        v11 = lists_numbers_sound(kind, left, right, xs, ys, ms, cs);
+        return lists_numbers_sound(kind, left, right, xs, ys, ms, cs);
     } else {
         number = stood.Refused.f0;
         place = stood.Refused.f1;
-        v11 = (answer_Judged){.Refused = {answer_Judged_Refused, number, place}};
+        return (answer_Judged){.Refused = {answer_Judged_Refused, number, place}};
     }
-    return v11;
 }
 
 /* lists::square. The first number of a side's allowance. */
 static uint64_t lists_square(knots_Kind kind, jumps_Order order)
 {
     uint8_t squares;
-    uint64_t v4;
     squares = kind.squares;
     if (order.tag == jumps_Order_Third) {
-        v4 = (uint64_t)squares;
+        return (uint64_t)squares;
     } else {
-        v4 = 20ull;
+        return 20ull;
     }
-    return v4;
 }
 
 /* minutes::back. The place before; at the first knot its own. */
@@ -1466,19 +1427,17 @@ static opened_Opened opened_Opened_of(knots_Kind kind, uint16_t head, list_u8 ca
     uint32_t number, place;
     decode_Card held, v10;
     answer_Judged v7, v11;
-    opened_Opened v8;
     v7 = opened_shaped(kind, head, card);
     if (v7.tag == answer_Judged_Refused) {
         number = v7.Refused.f0;
         place = v7.Refused.f1;
         v10 = decode_Card_none();
-        v8 = (opened_Opened){(answer_Judged){.Refused = {answer_Judged_Refused, number, place}}, v10};
+        return (opened_Opened){(answer_Judged){.Refused = {answer_Judged_Refused, number, place}}, v10};
     } else {
         held = decode_Card_of(card);
         v11 = opened_sound(kind, held);
-        v8 = (opened_Opened){v11, held};
+        return (opened_Opened){v11, held};
     }
-    return v8;
 }
 
 /* opened::behind_head. 1, 2; 15; the other records 14. */
@@ -1487,7 +1446,7 @@ static answer_Judged opened_behind_head(knots_Kind kind, list_u8 card)
     uint64_t n;
     uint16_t left, right, v8;
     uint32_t number, place;
-    answer_Judged v9, v10, v11, v12;
+    answer_Judged v9, v10, v11;
     v8 = bytes_read_u16(card, 4ull);
     n = (uint64_t)v8;
     left = bytes_read_u16(card, 6ull);
@@ -1498,41 +1457,33 @@ static answer_Judged opened_behind_head(knots_Kind kind, list_u8 card)
     if (v9.tag == answer_Judged_Refused) {
         number = v9.Refused.f0;
         place = v9.Refused.f1;
-        v12 = (answer_Judged){.Refused = {answer_Judged_Refused, number, place}};
+        return (answer_Judged){.Refused = {answer_Judged_Refused, number, place}};
     } else {
-        v12 = card_bytes_records_due(card, n);
+        return card_bytes_records_due(card, n);
     }
-    return v12;
 }
 
 /* opened::shaped. Head 14 before them. */
 static answer_Judged opened_shaped(knots_Kind kind, uint16_t head, list_u8 card)
 {
     uint32_t number, place;
-    answer_Judged v6, v7;
+    answer_Judged v6;
     v6 = card_bytes_head_due(card, head);
     if (v6.tag == answer_Judged_Refused) {
         number = v6.Refused.f0;
         place = v6.Refused.f1;
-        v7 = (answer_Judged){.Refused = {answer_Judged_Refused, number, place}};
+        return (answer_Judged){.Refused = {answer_Judged_Refused, number, place}};
     } else {
-        v7 = opened_behind_head(kind, card);
+        return opened_behind_head(kind, card);
     }
-    return v7;
 }
 
 /* opened::sound. Per knot 4, 5, 6; 9; 10, of a card that was decoded. */
 static answer_Judged opened_sound(knots_Kind kind, decode_Card card)
 {
     uint64_t n;
-    array_u16_64 minutes, ordinates;
-    array_u32_64 slopes, curvatures;
     n = card.knots;
-    minutes = card.minutes;
-    ordinates = card.ordinates;
-    slopes = card.slopes;
-    curvatures = card.curvatures;
-    return lists_sound(kind, card.left, card.right, (list_u16){minutes.e, n}, (list_u16){ordinates.e, n}, (list_u32){slopes.e, n}, (list_u32){curvatures.e, n});
+    return lists_sound(kind, card.left, card.right, (list_u16){card.minutes.e, n}, (list_u16){card.ordinates.e, n}, (list_u32){card.slopes.e, n}, (list_u32){card.curvatures.e, n});
 }
 
 /* record::Cursor::new. "constructor functions of the card and cursor types" */
@@ -1547,18 +1498,16 @@ static record_Found record_Cursor_read(record_Cursor self, list_u8 list, uint16_
 {
     uint64_t at, start;
     bool v7;
-    record_Found v8;
     record_Cursor v9;
     at = self.at;
     v7 = record_is_at(list, at, kind, length);
     if (v7) {
         start = at + 4ull;
         v9 = record_Cursor_new(start + (uint64_t)length);
-        v8 = (record_Found){.Body = {record_Found_Body, start, v9}};
+        return (record_Found){.Body = {record_Found_Body, start, v9}};
     } else {
-        v8 = (record_Found){.Bad = {record_Found_Bad, at}};
+        return (record_Found){.Bad = {record_Found_Bad, at}};
     }
-    return v8;
 }
 
 /* record::is_at. Whether a whole record of the kind and the length stands at an offset, which may be any. */

@@ -2,6 +2,8 @@
 //!
 //! - A local that begins as a copy of a parameter that nothing else reads is that parameter.
 //! - A temporary that is read once, with nothing between that could change what it is made of, is put where it is read. An operation that rounds is not.
+//! - A struct or an array that is a copy of a part of another, both of them only read from then on, is that part.
+//! - A value that a branch makes for the code behind it to return is returned there.
 //! - A multiple of an element's size, counted from an array or a list, is an element of it.
 //! - An array of constants that is only read is a table of the file.
 use crate::code::{Body, Expr, Function, Program, Stmt};
@@ -40,6 +42,8 @@ pub fn ready<'a>(types: &'a Types, program: &'a Program, f: &'a Function, bindin
         let alone: Vec<bool> = (0..f.locals.len()).map(|x| stays_in_lists(&code, x)).collect();
         scope.forward(&mut code, &alone);
         each_value(&mut code, &mut |e| scope.index(e));
+        scope.share_copies(&mut code);
+        scope.return_at_once(&mut code);
         scope.drop_unread(&mut code);
     }
     let tables = scope.take_tables(&mut code, first_table);
@@ -289,6 +293,48 @@ impl Scope<'_> {
         drop_in(code, &unread);
     }
 
+    // ---- copies and returns
+
+    /// Both the copy and what it is a copy of are written once, not in a loop, and nothing else has their address but to read: so they stay alike.
+    fn share_copies(&self, code: &mut Vec<Stmt>) {
+        for x in self.params + 1..self.locals.len() {
+            if !matches!(self.locals[x], Ty::Named(_) | Ty::Array(..)) {
+                continue;
+            }
+            let Some(Stmt::Assign(_, part)) = only_write(code, x) else { continue };
+            let (part, Some(from)) = (part.clone(), part_of_a_local(part)) else { continue };
+            let settled =
+                if from <= self.params { from != 0 && !code.iter().any(|s| writes(s, from)) } else { only_write(code, from).is_some() };
+            if from == x || !settled || !self.only_read(code, x) || !self.only_read(code, from) {
+                continue;
+            }
+            remove_write(code, x);
+            each_value(code, &mut |e| {
+                if *e == Expr::Local(x) {
+                    *e = part.clone()
+                }
+            });
+        }
+    }
+
+    /// A list that ends in branches, each of which ends in giving a value to a local, and then returns that local.
+    fn return_at_once(&self, code: &mut Vec<Stmt>) {
+        let given = match &code[..] {
+            [.., Stmt::If(..) | Stmt::Switch(..), Stmt::Assign(Expr::Local(0), Expr::Local(v)), Stmt::Return] if *v > self.params => {
+                Some(*v)
+            }
+            _ => None,
+        };
+        if let Some(v) = given {
+            let branches = &code[code.len() - 3];
+            if inner(branches).into_iter().all(|c| ends_in_giving(c, v)) && code.iter().map(|s| reads(s, v)).sum::<usize>() == 1 {
+                code.truncate(code.len() - 2);
+                inner_mut(code.last_mut().expect("the branches")).into_iter().for_each(|c| give_result(c, v));
+            }
+        }
+        code.iter_mut().flat_map(inner_mut).for_each(|c| self.return_at_once(c));
+    }
+
     // ---- elements
 
     fn index(&self, e: &mut Expr) {
@@ -360,6 +406,59 @@ impl Scope<'_> {
             };
             here && inner(s).into_iter().all(|c| self.only_read(c, x))
         })
+    }
+}
+
+/// The one statement that writes to a local, where it writes to all of it and is in no loop.
+fn only_write(code: &[Stmt], x: usize) -> Option<&Stmt> {
+    fn all<'c>(code: &'c [Stmt], x: usize, in_loop: bool, found: &mut Vec<(&'c Stmt, bool)>) {
+        for s in code {
+            if own(s).1.is_some_and(|p| p.base() == Some(x)) {
+                found.push((s, in_loop));
+            }
+            inner(s).into_iter().for_each(|c| all(c, x, in_loop || matches!(s, Stmt::Loop(_)), found));
+        }
+    }
+    let mut found = vec![];
+    all(code, x, false, &mut found);
+    match found[..] {
+        [(s, false)] if writes_whole(s, x) => Some(s),
+        _ => None,
+    }
+}
+
+fn remove_write(code: &mut Vec<Stmt>, x: usize) {
+    code.retain(|s| !writes_whole(s, x));
+    code.iter_mut().flat_map(inner_mut).for_each(|c| remove_write(c, x));
+}
+
+/// The local of which a place is a field, or a field of a field.
+fn part_of_a_local(e: &Expr) -> Option<usize> {
+    match e {
+        Expr::Local(i) => Some(*i),
+        Expr::Field(a, _) | Expr::Variant(a, _, _) => part_of_a_local(a),
+        _ => None,
+    }
+}
+
+/// Whether code ends in giving a value to a local, in each of its branches, or comes to no end.
+fn ends_in_giving(code: &[Stmt], v: usize) -> bool {
+    match code.last() {
+        Some(s @ (Stmt::Assign(..) | Stmt::Call(..))) => writes_whole(s, v),
+        Some(s @ (Stmt::If(..) | Stmt::Switch(..))) => inner(s).into_iter().all(|c| ends_in_giving(c, v)),
+        Some(Stmt::Return | Stmt::Exit(_)) => true,
+        _ => false,
+    }
+}
+
+fn give_result(code: &mut Vec<Stmt>, v: usize) {
+    match code.last_mut() {
+        Some(Stmt::Assign(p, _) | Stmt::Call(p, _, _)) if *p == Expr::Local(v) => {
+            *p = Expr::Local(0);
+            code.push(Stmt::Return);
+        }
+        Some(s @ (Stmt::If(..) | Stmt::Switch(..))) => inner_mut(s).into_iter().for_each(|c| give_result(c, v)),
+        _ => {}
     }
 }
 
