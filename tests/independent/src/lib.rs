@@ -12,6 +12,8 @@ mod exact;
 mod far;
 pub mod fitter;
 pub mod groups;
+#[cfg(test)]
+mod header;
 pub mod lines;
 pub mod random;
 pub mod reference;
