@@ -1,8 +1,8 @@
 /* The library for a process that cannot link it: takes calls on standard input and writes their answers on
-   standard output, every number in little-endian bytes, whatever the order of the machine is. A call is a letter
-   and its arguments in the order of kaihveto.h: a number in 8 bytes, a list as its length in 8 bytes and its
-   elements. An answer is the struct, and then each list that the function may write to. It ends with 1 and leaves
-   the answer unfinished where a byte before or behind a list was written. */
+   standard output, every number in little-endian bytes, whatever the order of the machine is. A call is a
+   letter and its arguments in the order of kaihveto.h: a number in 8 bytes, a list as its length in 8 bytes
+   and its elements. An answer is the struct, and then each list that the function may write to. It ends with
+   1 and leaves the answer unfinished where a byte before or behind a list was written. */
 #include "kaihveto.h"
 
 #include <stdio.h>

@@ -1,7 +1,9 @@
 //! The translator on small terms whose answers are plain from the logic's Mir/Val.antt and Prog/Machine.antt: what the library's own questions would not tell from a wrong
 //! translation, each a function of two numbers that is written as C, compiled and run. And forms that it does not know, which it has to refuse by name.
-use std::path::PathBuf;
-use std::process::{Command, Output};
+use std::path::{Path, PathBuf};
+use std::process::{Command, Output, Stdio};
+use std::thread::sleep;
+use std::time::Duration;
 
 // ---- terms, as `rt mir` prints them
 
@@ -262,6 +264,19 @@ fn cases() -> Vec<Case> {
     ]
 }
 
+/// What a program prints. A wrong loop may have no end: after ten seconds the program is ended.
+fn printed_in_time(program: &Path) -> String {
+    let mut run = Command::new(program).stdout(Stdio::piped()).spawn().unwrap();
+    for _ in 0..1000 {
+        if run.try_wait().unwrap().is_some() {
+            return String::from_utf8(run.wait_with_output().unwrap().stdout).unwrap();
+        }
+        sleep(Duration::from_millis(10));
+    }
+    run.kill().unwrap();
+    panic!("a loop has no end")
+}
+
 #[test]
 fn small_terms_as_c_give_the_logics_answers() {
     let cases = cases();
@@ -280,7 +295,7 @@ fn small_terms_as_c_give_the_logics_answers() {
     let compiler = std::env::var("CC").unwrap_or("cc".into());
     let flags = ["-std=c11", "-O2", "-Wall", "-Wextra", "-Werror", "small.c", "main.c", "-o", "small"];
     assert!(Command::new(compiler).args(flags).current_dir(&folder).status().unwrap().success());
-    let printed = String::from_utf8(Command::new(folder.join("small")).output().unwrap().stdout).unwrap();
+    let printed = printed_in_time(&folder.join("small"));
     for (case, line) in cases.iter().zip(printed.lines()) {
         assert_eq!(line, case.wanted.to_string(), "{}", case.name);
     }

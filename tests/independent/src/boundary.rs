@@ -1,6 +1,6 @@
-//! The library's functions, each wrapped so that safe Rust can call it: a slice passes as its pointer and then its
-//! length, an answer comes back by value. They are those of the archive that is linked, or of a far program where
-//! one is named.
+//! The library's functions, each wrapped so that safe Rust can call it: a slice passes as its pointer and
+//! then its length, an answer comes back by value. They are those of the archive that is linked, or of a far
+//! program where one is named.
 
 use crate::far;
 

@@ -27,8 +27,8 @@ pub struct Tally {
 }
 
 impl Tally {
-    /// Of all questions, or of a part of them that is drawn by the seed. The groups' own seeds are small: the draws
-    /// have others.
+    /// Of all questions, or of a part of them that is drawn by the seed. The groups' own seeds are small: the
+    /// draws have others.
     pub fn new(part: Option<u64>) -> Tally {
         Tally { comparisons: 0, differences: 0, met: BTreeMap::new(), draws: part.map(|seed| Random::new(!seed)) }
     }
@@ -334,8 +334,8 @@ pub fn book_find(tally: &mut Tally, book: &[u8], room: u16) {
     tally.count("book_find", wanted.number, boundary::book_find(book, room), wanted, true, || format!("of {room} in {}", shown(book)));
 }
 
-/// A card put in; the buffer is left as the reference leaves it, though the library was not asked. Whether it was
-/// accepted.
+/// A card put in; the buffer is left as the reference leaves it, though the library was not asked. Whether it
+/// was accepted.
 pub fn book_put(tally: &mut Tally, book: &mut [u8], room: u16, card: &[u8]) -> bool {
     let mut wanted = within_a_pattern(u8_pattern(book.len()), book);
     let wanted_answer = match reference::book_put(lent(&mut wanted), room, card) {

@@ -1,7 +1,7 @@
 //! The library's functions by a program of its own, for what this process cannot link: the archive on another
-//! processor than x86-64, or the library compiled for another one. Each call goes to tests/c/far.c, which is linked
-//! with the library. KAIHVETO_FAR names that program, and KAIHVETO_RUN the command that runs it, where it does not
-//! run by itself.
+//! processor than x86-64, or the library compiled for another one. Each call goes to tests/c/far.c, which is
+//! linked with the library. KAIHVETO_FAR names that program, and KAIHVETO_RUN the command that runs it, where
+//! it does not run by itself.
 
 use crate::boundary::{Change, Checked, Fitted, Mean, Mended, Reading, Refitted, Spot, Tabled, Used, Written};
 use std::env;

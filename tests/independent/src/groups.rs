@@ -698,8 +698,9 @@ fn all_met(tally: &Tally) -> bool {
 
 type Group = fn(&mut Tally, &mut Random);
 
-/// Runs every group, on all its questions or on a part drawn by the seed, prints the numbers, and says whether
-/// nothing differed and, of all questions, nothing was left unmet: a part may miss a number that few of them meet.
+/// Runs every group, on all its questions or on a part drawn by the seed, prints the numbers, and says
+/// whether nothing differed and, of all questions, nothing was left unmet: a part may miss a number that few
+/// of them meet.
 pub fn run(part: Option<u64>) -> bool {
     let groups: [(&str, Group); 19] = [
         ("logs", logs),
