@@ -132,8 +132,11 @@ impl<'r, 'a> Writer<'r, 'a> {
 
     /// A part of a place, by its name.
     fn part(&mut self, of: &Expr, name: &str) -> String {
+        if self.scope().lent(of) && matches!(self.ty(of), Ty::Named(_)) {
+            fail::<()>("a field of a struct that a caller may have as another type", name)
+        }
         match of {
-            Expr::Deref(p, _) if !self.scope().lent(of) => {
+            Expr::Deref(p, _) => {
                 let pointer = self.pointer(p, &self.ty(of));
                 format!("{}->{name}", atom(pointer))
             }
