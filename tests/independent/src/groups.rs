@@ -4,7 +4,7 @@ use crate::books;
 use crate::compare::{self, Tally};
 use crate::curves::{self, Numbers, Sheet, Turn};
 use crate::random::Random;
-use crate::reference::{self, card_size, End, FREE, HOLE, LONGEST_LOG, MOST_KNOTS, ORDINATE_LIMIT, WIDEST_GAP};
+use crate::reference::{self, card_size, End, CARD_NUMBER_LIMIT, FREE, HOLE, LONGEST_LOG, MOST_KNOTS, ORDINATE_LIMIT, WIDEST_GAP};
 use std::collections::BTreeMap;
 use std::time::Instant;
 
@@ -558,6 +558,48 @@ fn refits(tally: &mut Tally, random: &mut Random) {
             compare::refit(tally, &numbers.bytes(), [66; 2]);
         }
     }
+    refits_past_the_limit(tally, random);
+}
+
+/// Numbers near an exact solution of which one is a card unit or two beyond the limit, and stands on the card at the limit itself.
+fn cut_at_the_limit(random: &mut Random) -> Option<Numbers> {
+    let n = random.within(3, 6) as usize;
+    let mut minutes = vec![0];
+    for i in 1..n {
+        minutes.push(minutes[i - 1] + random.within(1, 12) as u16);
+    }
+    let limit = i128::from(CARD_NUMBER_LIMIT);
+    let largest = |numbers: &[[i128; 2]]| numbers.iter().flatten().map(|number| number.abs()).max().unwrap_or(0);
+    let solved = |ordinates: &[i16]| {
+        let pairs = reference::eliminate(&minutes, ordinates, reference::FREE, reference::FREE).ok()?;
+        Some(pairs.iter().map(|pair| pair.map(reference::card_units)).collect::<Vec<[i128; 2]>>())
+    };
+    let first: Vec<i16> = (0..n).map(|_| random.within(-20_000, 20_000) as i16).collect();
+    let size = largest(&solved(&first)?);
+    if size < limit {
+        return None;
+    }
+    let ordinates: Vec<i16> = first.iter().map(|&y| (i128::from(y) * (limit + 1) / size) as i16).collect();
+    let numbers = solved(&ordinates)?;
+    if !(limit + 1..=limit + 2).contains(&largest(&numbers)) {
+        return None;
+    }
+    let cut = |number: &[i128; 2], of: usize| number[of].clamp(-limit, limit) as i32;
+    let (slopes, curvatures) = numbers.iter().map(|number| (cut(number, 0), cut(number, 1))).unzip();
+    Some(Numbers { sheet: Sheet { minutes, ordinates }, slopes, curvatures, left: 0, right: 0 })
+}
+
+/// Cards that are accepted, and whose fresh fit is refused with 9.
+fn refits_past_the_limit(tally: &mut Tally, random: &mut Random) {
+    let mut met = 0;
+    for _ in 0..60_000 {
+        let Some(numbers) = cut_at_the_limit(random) else { continue };
+        let (bytes, n) = (numbers.bytes(), numbers.slopes.len());
+        let refused = reference::refit(&bytes, &mut vec![0; n], &mut vec![0; n]).is_err_and(|refusal| refusal.number == 9);
+        met += usize::from(reference::check(&bytes).is_ok() && refused);
+        refit_into_all(tally, &bytes, n);
+    }
+    assert!(met > 0, "no accepted card whose fresh fit is refused");
 }
 
 /// One sheet mended, with a list of changes that has no place, one too few, just enough and more than that.
