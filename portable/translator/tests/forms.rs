@@ -119,6 +119,21 @@ fn cases() -> Vec<Case> {
             (5, 70),
             75,
         ),
+        // the same where nothing but its address is ever asked for: what it is a copy of stays
+        case(
+            "slot_is_no_parameter",
+            &["*(tyInt 32)", MUT, U32],
+            vec![
+                set(1, &op2("(add unsigned)", &x, "(int 32 1)")),
+                set(3, &of(&x)),
+                set(4, "(addrOf (place 3 lnil))"),
+                format!("(assign {} {})", at(4, U32), of(&y)),
+                set(5, &of(&format!("(copy {})", at(4, U32)))),
+                set(0, &op2("(add unsigned)", &copy(5), &x)),
+            ],
+            (5, 70),
+            76,
+        ),
         // a copy that is read behind a write of what it is a copy of
         case("copy_before_a_write", &[U32], vec![set(3, &of(&x)), set(1, &of(&y)), set(0, &of(&copy(3)))], (5, 70), 5),
         // the same through memory
