@@ -323,6 +323,20 @@ fn card_units_round_the_exact_number() {
     assert!(card_units(f64::MAX) > 1 << 64);
 }
 
+/// At gaps that are no powers of two each rounding counts. `crates/fit/proofs/Uneven.antt` computes the same bits of the definitions.
+#[test]
+fn the_pairs_of_uneven_gaps_by_their_bits() {
+    let pairs = eliminate(&[0, 20, 35, 69], &[2200, 1400, 1800, 5300], FREE, FREE).unwrap();
+    let bits: Vec<[u64; 2]> = pairs.iter().map(|pair| pair.map(f64::to_bits)).collect();
+    let wanted: [[u64; 2]; 4] = [
+        [0xc054_014d_c5dd_38c6, 0x4010_16ab_1ddf_de7d],
+        [0xbfe2_a4e0_476f_0480, 0x400e_91b0_a1e9_7443],
+        [0x404a_2fcd_d0a3_faf8, 0x4009_c9c6_8d17_c41e],
+        [0x4062_ec91_be50_a523, 0x4006_7804_d15b_976b],
+    ];
+    assert_eq!(bits, wanted);
+}
+
 /// What mending a sheet into a list of so many changes answers: number, place, the changes as (place, new number) and the sheet then.
 /// The old numbers are the holes', nothing is written behind the changes or on a refusal, and putting them back gives the sheet as it came.
 fn mended(minutes: &[u16], ordinates: &[i16], room: usize) -> (u32, u32, Vec<(u32, i32)>, Vec<i16>) {
