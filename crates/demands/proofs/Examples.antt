@@ -35,6 +35,7 @@ use Rattle.card.specs.Promise.{Lists, into}
 use Rattle.table.specs.Table.{table-order, tabled}
 use Rattle.table.specs.Promise.{Columns, table-verdict, rows}
 use Rattle.writer.specs.Promise.{written}
+use Rattle.knots.specs.Lent.{lent}
 use Rattle.log.specs.Answers as Log-answers
 use Rattle.rows.specs.Floats.{f0}
 use Rattle.ends.specs.Ends.{end-by}
@@ -62,7 +63,7 @@ use Rattle.book_put.specs.Put.{entry, put-in, after}
 use Rattle.book_put.proofs.Answers.{fits}
 use Rattle.bookkeeping.proofs.Inverse.{no-room}
 use Rattle.kaihveto.specs.Types.{Minutes, Room}
-use Rattle.demands.specs.Calls.{A-mean, A-fit, A-fit-between, without-ends, between-ends, worked-out, A-write, A-check, A-read, A-reading, A-table, A-refit, anew, A-mend, of-the-mended, A-book-put, A-book-find}
+use Rattle.demands.specs.Calls.{A-mean, A-fit, A-fit-between, without-ends, between-ends, card-between, worked-out, A-write, written-card, A-check, A-read, A-reading, A-table, A-refit, anew, A-mend, of-the-mended, A-book-put, A-book-find}
 use Rattle.demands.specs.Demands.{Is-given, Room-for, On-the-card, Half-a-unit}
 use Rattle.demands.proofs.Written.{card-bytes}
 use Rattle.demands.proofs.Witnesses.{rest-is-near, line-is-near}
@@ -323,6 +324,11 @@ module _ (lifetime : Lft) (pointer : ℕ × ℕ) (name : GName) where
   pub write-accepts : write-call .answer .number ≡ 0
   unfolding written
   write-accepts = ap (λ v. written v (size (knots p1)) .number) writes
+
+  -- what it writes is what the fit between free ends leaves
+  pub writes-the-fit : written-card write-call ≡ card-between fit-between-call
+  unfolding p1 table-3
+  writes-the-fit = sym (ap (λ v. lent (p1 .minutes) (p1 .ordinates) (slopes-after v (p1 .slopes)) (curvatures-after v (p1 .curvatures)) 0 0) fits-by-codes)
 
   -- into lists of just the card's places
   abbrev pub read-call : A-read
