@@ -1,4 +1,5 @@
--- A sound book as literal bytes, computed: two rooms and the closing record, read and made. Document 02, order 3. Assumes nothing.
+-- A sound book as literal bytes, computed: two rooms and the closing record, read and made. Document 02,
+-- order 3. Assumes nothing.
 use mathlib.Core.Path.{_≡_, refl}
 use mathlib.Core.List.{List, [], _∷_}
 use Prim.Native.Nat.{ℕ}

@@ -1,4 +1,5 @@
--- 21 at the limit of a book, computed: a book that a put would make of 16,384 bytes, and of one more, in a buffer that is longer. Document 02, order 3. Assumes nothing.
+-- 21 at the limit of a book, computed: a book that a put would make of 16,384 bytes, and of one more, in a
+-- buffer that is longer. Document 02, order 3. Assumes nothing.
 use mathlib.Core.Path.{_≡_, refl}
 use mathlib.Core.List.{List, [], _∷_}
 use Prim.Native.Nat.{ℕ}

@@ -1,4 +1,5 @@
--- Document 01, "Numbers of refusal": 9, 11, 15 and 26 at their limits, each with its place, by computation of the definitions. 7 is computed with the ends of a fit. Assumes nothing.
+-- Document 01, "Numbers of refusal": 9, 11, 15 and 26 at their limits, each with its place, by computation of
+-- the definitions. 7 is computed with the ends of a fit. Assumes nothing.
 use mathlib.Core.Path.{_≡_, refl}
 use mathlib.Core.List.{[], _∷_}
 use lib.IntN.{ℤ, pos}

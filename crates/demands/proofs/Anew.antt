@@ -1,4 +1,5 @@
--- Demand 2 of a card that is fitted anew: the numbers that it leaves are the elimination's of the card's own knots, and are kept with the card's own codes.
+-- Demand 2 of a card that is fitted anew: the numbers that it leaves are the elimination's of the card's own
+-- knots, and are kept with the card's own codes.
 -- Assumes nothing.
 use Prim.Native.Nat.{ℕ}
 use mathlib.Core.Path.{_≡_, sym, ap, subst, _∙_}

@@ -1,5 +1,6 @@
--- From the fit to the card: what an accepted fit gives, the writer accepts in a buffer of its size, and the reader accepts what is written and returns it. Of the functions of the
--- boundary that is said of what they leave, with the codes of its ends.
+-- From the fit to the card: what an accepted fit gives, the writer accepts in a buffer of its size, and the
+-- reader accepts what is written and returns it. Of the functions of the boundary that is said of what they
+-- leave, with the codes of its ends.
 -- Assumes nothing.
 use mathlib.Core.Path.{_≡_, sym, ap, ap₂, subst, _∙_}
 use mathlib.Core.List.{List}

@@ -1,4 +1,5 @@
--- No card within half a unit of an exact solution is refused for a jump, by whatever function, and no numbers that a fit works out.
+-- No card within half a unit of an exact solution is refused for a jump, by whatever function, and no numbers
+-- that a fit works out.
 -- Assumes nothing.
 use Prim.Native.Nat.{ℕ}
 use mathlib.Core.Path.{subst}

@@ -1,4 +1,5 @@
--- Cards within half a unit of an exact solution, by computation: that of Table 3's knots which starts at rest, and P7's. Table 3's own is in `curve/proofs/Witness`.
+-- Cards within half a unit of an exact solution, by computation: that of Table 3's knots which starts at
+-- rest, and P7's. Table 3's own is in `curve/proofs/Witness`.
 -- Assumes nothing.
 use mathlib.Core.Path.{_≡_, refl, sym, subst}
 use mathlib.Core.Logic.{⊎-elim}

@@ -231,7 +231,8 @@ fresh-curvatures′ c = now (c .exit .1 .1 .0)
 abbrev pub old-card : A-refit → Card
 old-card c = card-of (refit-bytes c)
 
--- its own knots fitted anew, between ends of its own codes that are given its own numbers, at the front of the lent lists
+-- its own knots fitted anew, between ends of its own codes that are given its own numbers, at the front of
+-- the lent lists
 abbrev pub anew : A-refit → Fitting
 anew c =
     let old = old-card c in

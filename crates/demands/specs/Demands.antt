@@ -159,7 +159,8 @@ front n l left right = lent (take n (l .minutes)) (take n (l .ordinates)) (take 
 abbrev pub written-bytes : A-write → List ℕ
 written-bytes w = take (w .answer .bytes) (buffer′ w)
 
--- a card that the writer accepts where there is room; and what is written then is accepted with its codes, and read back
+-- a card that the writer accepts where there is room; and what is written then is accepted with its codes,
+-- and read back
 pub record Kept (card : Card) : Type 0 where
   pub is-written : (w : A-write) → written-card w ≡ card → card-size (knots card) ≤ length (buffer w) → w .answer .number ≡ 0
   pub is-read : (w : A-write) (r : A-read) → written-card w ≡ card → card-size (knots card) ≤ length (buffer w) → read-bytes r ≡ written-bytes w → Room-for (knots card) (places r)
@@ -182,7 +183,8 @@ pub record Demand-2 : Type 0 where
   -- "The fit is exactly the elimination that the paper prescribes, each operation rounded once"
   pub fit : (c : A-fit) → c .answer .number ≡ 0 → Eliminates (without-ends c)
   pub fit-between : (c : A-fit-between) → c .answer .number ≡ 0 → Eliminates (between-ends c)
-  -- and without ends it starts at rest, with slope 0 and curvature 0 at the first knot: what it leaves is kept with the codes 1 and 0
+  -- and without ends it starts at rest, with slope 0 and curvature 0 at the first knot: what it leaves is
+  -- kept with the codes 1 and 0
   pub fit-rests : (c : A-fit) → c .answer .number ≡ 0 → (knot (fitted-card c) 0 .m ≡ pos 0) × (knot (fitted-card c) 0 .M ≡ pos 0)
   pub fitted-is-kept : (c : A-fit) → c .answer .number ≡ 0 → Kept (fitted-card c)
   -- and between ends with the codes that were asked

@@ -1,5 +1,6 @@
--- A knot eliminated behind another, and the way back to it, by the bits of their numbers, computed: gaps that are no powers of two, so that each rounding counts. The bits are those of a second
--- reading of document 01's "The elimination, rounded once per operation". Assumes nothing.
+-- A knot eliminated behind another, and the way back to it, by the bits of their numbers, computed: gaps that
+-- are no powers of two, so that each rounding counts. The last pair is that of the independent reading of
+-- document 01 (tests/independent), which has it in a test of its own. Assumes nothing.
 use mathlib.Core.Path.{_≡_, refl}
 use mathlib.Core.Bool.{true, false}
 use Prim.Native.Nat.{ℕ}

@@ -1,4 +1,5 @@
--- The cases of document 01 at the edge of 7: "An end slope of 256 passes 7; the next float up does not"; and its place, "end knot". Assumes nothing.
+-- The cases of document 01 at the edge of 7: "An end slope of 256 passes 7; the next float up does not"; and
+-- its place, "end knot". Assumes nothing.
 use mathlib.Core.Path.{_≡_, refl}
 use mathlib.Core.Bool.{true, false}
 use mathlib.Core.List.{[], _∷_, map}
@@ -17,7 +18,8 @@ beyond : map unfit (ofBits binary64 0x4070_0000_0000_0001 ∷ neg (ofBits binary
 unfolding ofBits neg lt
 beyond = refl
 
--- 7 stands at the end's knot, of five: at the left; at the right; at the left where both are unfit; and what an end's kind does not take is not looked at
+-- 7 stands at the end's knot, of five: at the left; at the right; at the left where both are unfit; and what
+-- an end's kind does not take is not looked at
 places : ends 5 (Both nan f256) Free ∷ ends 5 Free (Curvature (inf true)) ∷ ends 5 (Curvature nan) (Both f256 nan) ∷ ends 5 (Both f256 (neg f256)) (Curvature f256) ∷ ends 5 Free Free ∷ []
     ≡ refused 7 0 ∷ refused 7 4 ∷ refused 7 0 ∷ accepted ∷ accepted ∷ []
 unfolding ofBits neg lt ends refuse _then_

@@ -40,7 +40,8 @@ at-rest left =
       right = 0;
     }
 
--- both fits; with the code of a free end on the left the second is no sound card; and between free ends the fit of P7's knots is its card
+-- both fits; with the code of a free end on the left the second is no sound card; and between free ends the
+-- fit of P7's knots is its card
 pub fits-are :
     (fit-between (p1 .minutes) (p1 .ordinates) 5 5 Free Free ≡ given p1) × (fit (p1 .minutes) (p1 .ordinates) 5 5 ≡ given (at-rest 1))
     × (numbers-sound quintic (at-rest 0) ≡ refused 10 0) × (fit-between (line .minutes) (line .ordinates) 3 3 Free Free ≡ given line)

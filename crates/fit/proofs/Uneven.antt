@@ -1,5 +1,6 @@
--- A fit at gaps of 20, 15 and 34 minutes by the bits of its pairs, computed: none is a power of two, so that each rounding counts. The bits are those of the independent reading of document 01
--- (tests/independent), which has them in a test of its own. Assumes nothing.
+-- A fit at gaps of 20, 15 and 34 minutes by the bits of its pairs, computed: none is a power of two, so that
+-- each rounding counts. The bits are those of the independent reading of document 01 (tests/independent),
+-- which has them in a test of its own. Assumes nothing.
 use Prim.Native.Nat.{ℕ}
 use mathlib.Core.Path.{_≡_, refl}
 use mathlib.Core.List.{List, [], _∷_}

@@ -1,5 +1,6 @@
--- What the list of changes holds after mending: "Each changed place goes into a lent list of changes, each with its place, old number and new
--- number, in rising order, their count is returned" (document 02, order 1). Assumes nothing.
+-- What the list of changes holds after mending: "Each changed place goes into a lent list of changes, each
+-- with its place, old number and new number, in rising order, their count is returned" (document 02, order
+-- 1). Assumes nothing.
 use Prim.Native.Nat.{ℕ, _≤_, _<_}
 use mathlib.Core.Path.{_≡_}
 use mathlib.Core.Bool.{true}

@@ -1,5 +1,6 @@
--- The equations of a knot by the bits of their numbers, computed: gaps that are no powers of two, so that each rounding counts, and another order of the operations gives other bits.
--- The bits are those of a second reading of document 01's "The elimination, rounded once per operation". Assumes nothing.
+-- The equations of a knot by the bits of their numbers, computed: gaps that are no powers of two, so that each
+-- rounding counts, and another order of the operations gives other bits. The bits are those of the independent
+-- reading of document 01 (tests/independent), which has them in a test of its own. Assumes nothing.
 use mathlib.Core.Path.{_≡_, refl}
 use Prim.Native.Nat.{ℕ}
 use lib.IntN.{pos}
