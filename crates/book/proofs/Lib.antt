@@ -3,3 +3,4 @@ pub mod Rooms
 pub mod Walks
 pub mod Runs
 pub mod Answers
+pub mod Examples

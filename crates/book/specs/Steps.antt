@@ -14,9 +14,19 @@ use Rattle.book.specs.declared.Slot.{Slot}
 use Rattle.book.specs.declared.Walked.{Walked}
 use Rattle.book.specs.declared.Walked.the-variants.{Sound, Refused}
 
--- what stands at an offset
-unfoldable pub step-at : List ℕ → ℕ → Step
-step-at s at = cond (closes s at) Close (cond (holds s at) (Room (numAt 2 s (at + 4)) (next s at)) Wrong)
+-- what may stand at an offset: a room's record, with its room and the offset behind it; or the closing record
+pub data Standing : Type 0 where
+  room : ℕ → ℕ → Standing
+  close : Standing
+
+-- a step in the paper's number and values: "14 for the book's own records", at their offset
+abbrev pub step-of : ℕ → Step → Answer Standing
+step-of at (Room number behind) = given (room number behind)
+step-of at Close = given close
+step-of at Wrong = refused 14 at
+
+unfoldable pub step-at : List ℕ → ℕ → Answer Standing
+step-at s at = cond (closes s at) (given close) (cond (holds s at) (given (room (numAt 2 s (at + 4)) (next s at))) (refused 14 at))
 
 -- ---- what a walk has met
 

@@ -11,7 +11,7 @@ ghost use Rattle.answer.specs.Judge.{verdict-of};
 ghost use Rattle.card.specs.Answers.{own as card-own};
 ghost use Rattle.book.specs.Book.{most, closes, book as the-book};
 ghost use Rattle.book.specs.Lookup.{in-use, part, look-up, spot-at, spot};
-ghost use Rattle.book.specs.Steps.{step-at, nothing-met, past, closed, walked-of, walked};
+ghost use Rattle.book.specs.Steps.{step-of, step-at, nothing-met, past, closed, walked-of, walked};
 
 // ---- a book's records
 
@@ -33,7 +33,7 @@ fn closes(book: &[u8], at: usize) -> bool
 
 // The offset may be any, and so may the bytes.
 pub fn step_at(book: &[u8], at: usize) -> Step
-    ensures { λ r. ⌜ r ≡ step-at (now (book .entry)) at ⌝ }
+    ensures { λ r. ⌜ step-of at r ≡ step-at (now (book .entry)) at ⌝ }
 {
     if closes(book, at) {
         return Step::Close;

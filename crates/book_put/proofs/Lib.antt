@@ -2,3 +2,4 @@ pub mod Placing
 pub mod Bytes
 pub mod Splicing
 pub mod Answers
+pub mod Examples

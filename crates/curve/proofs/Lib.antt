@@ -12,3 +12,4 @@ pub mod Middle
 pub mod Faults
 pub mod Cases
 pub mod Witness
+pub mod Edges

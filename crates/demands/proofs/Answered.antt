@@ -264,13 +264,13 @@ module _ {s : List ℕ} {ms Ms ms′ Ms′ : List ℤ} {r : Refitted} (refits : 
     unfolding refit
     lent = order-takes _ _ _ _ s (first-accepts _ _ e)
 
-    fitted : fresh (card-of s) ≡ given d
+    pub refit-fits : fresh (card-of s) ≡ given d
     unfolding refit
-    fitted = next-accepts _ _ e
+    refit-fits = next-accepts _ _ e
 
-    counted : knots (card-of s) ≡ r .knots
+    pub refit-counts : knots (card-of s) ≡ r .knots
     unfolding refitted
-    counted = sym (ap (λ r. r .knots) (refits .answer ∙ ap (refitted (card-of s)) e))
+    refit-counts = sym (ap (λ r. r .knots) (refits .answer ∙ ap (refitted (card-of s)) e))
 
   spares-front : (numbers : Card → List ℤ) {entry exit : List ℤ} → exit ≡ after order numbers entry
       → ((d : Card) → order ≡ given d → (length (numbers d) ≡ knots (card-of s)) × (knots (card-of s) ≤ length entry)) → Spares (r .number) (r .knots) entry exit
@@ -284,10 +284,10 @@ module _ {s : List ℕ} {ms Ms ms′ Ms′ : List ℤ} {r : Refitted} (refits : 
       front : Is-given order → (length exit ≡ length entry) × (drop (r .knots) exit ≡ drop (r .knots) entry)
       front g =
           let l = room (g .what) (g .is) in
-          over-front (numbers (g .what)) entry (e ∙ ap (λ v. after v numbers entry) (g .is)) (l .0 ∙ counted (g .is)) (omega (arith, l .1, counted (g .is)))
+          over-front (numbers (g .what)) entry (e ∙ ap (λ v. after v numbers entry) (g .is)) (l .0 ∙ refit-counts (g .is)) (omega (arith, l .1, refit-counts (g .is)))
 
   pub refit-spares : Spares (r .number) (r .knots) ms ms′ × Spares (r .number) (r .knots) Ms Ms′
   refit-spares = (
-    spares-front (λ d. d .slopes) (refits .slopes) (λ d e. (fresh-places (card-of s) (fitted e) .0, lent e .room)),
-    spares-front (λ d. d .curvatures) (refits .curvatures) (λ d e. (fresh-places (card-of s) (fitted e) .1, omega (arith, lent e .room, lent e .curvatures))),
+    spares-front (λ d. d .slopes) (refits .slopes) (λ d e. (fresh-places (card-of s) (refit-fits e) .0, lent e .room)),
+    spares-front (λ d. d .curvatures) (refits .curvatures) (λ d e. (fresh-places (card-of s) (refit-fits e) .1, omega (arith, lent e .room, lent e .curvatures))),
   )

@@ -24,9 +24,10 @@ use Rattle.book_put.proofs.Bytes.{length-book}
 use Rattle.bookkeeping.specs.Card.{card-in}
 use Rattle.kaihveto.specs.Types.{Room}
 use Rattle.bookkeeping.proofs.Kept.{was-put, put-is-book, put-is-found, cards-stay, others-as-before}
-use Rattle.demands.specs.Demands.{Says, Spares, Holds-a-book, Half-a-unit}
+use Rattle.demands.specs.Calls.{A-book-find, the-book, the-room}
+use Rattle.demands.specs.Demands.{Says, Spares, Holds-a-book, Hands-back, Half-a-unit}
 use Rattle.demands.proofs.Numbered.{says, card-numbered}
-use Rattle.demands.proofs.Off.{own-never}
+use Rattle.demands.proofs.NeverTen.{own-never}
 
 -- ---- which numbers the orders of a book never refuse with
 
@@ -169,7 +170,7 @@ module _ (room : ℕ) (card : List ℕ) {entry exit : List ℕ} {r : Used} (puts
 
 -- ---- the part that is handed back
 
--- is the card, and an empty part where there is none
+-- is what is looked up
 pub part-is : (room : ℕ) (s : List ℕ) {r : Spot} → r ≡ spot room s → take (r .length) (drop (r .start) s) ≡ part (look-up room s)
 part-is room s e = subst (λ r. take (r .length) (drop (r .start) s) ≡ part (look-up room s)) (sym e) (handed room s .is)
 
@@ -178,6 +179,21 @@ unfolding part
 part-passes room s e z =
     let g = find-answers room s e .0 .accepts z in
     ap own (part-is room s e ∙ ap part (g .is)) ∙ looked-up room s (g .is) .passes
+
+pub handed-back : (c : A-book-find) → Hands-back c
+unfolding part _giving_
+handed-back c =
+    let room = the-room c in
+    let s = the-book c in
+    let answers = find-answers room s (c .promised) in
+    record {
+      inside = rw (c .promised) (handed room s .inside);
+      its-card = λ z.
+          let g = answers .0 .accepts z in
+          let l = looked-up room s (g .is) in
+          ap (λ b. b giving held room) (l .is) ∙ l .here ∙ ap given (sym (part-is room s (c .promised) ∙ ap part (g .is)));
+      none = λ h. ap (λ n. take n (drop (c .answer .start) s)) (answers .1 h .1);
+    }
 
 -- ---- never 10
 

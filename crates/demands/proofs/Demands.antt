@@ -16,17 +16,19 @@ use Rattle.card.specs.Answers.{own, read-off}
 use Rattle.table.specs.Promise.{table-verdict, Tables}
 use Rattle.book.specs.Lookup.{look-up, part}
 use Rattle.exact_fit.proofs.Solution.{one-exact}
-use Rattle.demands.specs.Calls.{A-fit, A-fit-between, without-ends, between-ends, A-write, written-card, buffer, A-check, checked-bytes, A-read, read-bytes, places, places′, reading-bytes, minute, A-table, table-bytes, from, lists-for, lists-for′, first-minute, log, A-book-find, the-book, the-room, the-part, A-book-put, put-book, put-book′, put-room, put-card}
+use Rattle.demands.specs.Calls.{A-fit, A-fit-between, without-ends, between-ends, A-write, written-card, buffer, A-check, checked-bytes, A-read, read-bytes, places, places′, reading-bytes, minute, A-table, table-bytes, from, lists-for, lists-for′, first-minute, log, sheet-minutes, sheet, A-book-find, the-book, the-room, the-part, A-book-put, put-book, put-book′, put-room, put-card}
 use Rattle.demands.specs.Demands.{Fit-says, Accepts-as, Room-for, front, written-bytes, Off, Demand-1, Demand-2, Demand-3, Demands}
 use Rattle.fit.proofs.Numbered.{codes-numbered}
 use Rattle.demands.proofs.Numbered.{accepts}
 use Rattle.demands.proofs.Answered.{mean-answers, fit-says, fit-spares, check-answers, read-answers, read-spares, write-answers, write-spares, reading-answers, table-answers, table-spares, refit-answers, refit-spares}
 use Rattle.demands.proofs.Given.{eliminates, mean-given}
-use Rattle.demands.proofs.FitToCard.{default-rests, default-is-written}
-use Rattle.demands.proofs.MendedSheet.{mend-answers, mend-spares, mend-eliminates, one-mended-solution}
-use Rattle.demands.proofs.Books.{find-answers, put-answers, put-spares, leaves-a-book, is-found, others-cards, others-found, part-is, part-passes, find-never, puts-never}
-use Rattle.demands.proofs.RoundTrip.{written-accepted, written-held, accepts-its-card, takes, reads-its-card, made-again}
-use Rattle.demands.proofs.Off.{stands-on-a-gap, of-card, close, at-knots, looks, gap-left, on-its-card, in-table, table-counted, written-never, checked-never, read-never, read-off-never, table-never}
+use Rattle.demands.proofs.FitToCard.{default-rests, default-is-kept, between-is-kept, read-back}
+use Rattle.demands.proofs.Anew.{fresh-eliminates, fresh-is-kept}
+use Rattle.demands.proofs.MendedSheet.{mend-answers, mend-spares, mend-eliminates, one-mended-solution, mended-is-kept, mend-lists, mend-put-back}
+use Rattle.demands.proofs.Books.{find-answers, put-answers, put-spares, leaves-a-book, is-found, others-cards, others-found, part-is, part-passes, handed-back, find-never, puts-never}
+use Rattle.demands.proofs.RoundTrip.{written-accepted, written-held, accepts-its-card, reads-its-card, made-again}
+use Rattle.demands.proofs.Off.{stands-on-a-gap, of-card, close, at-knots, looks, gap-left, on-its-card, in-table, table-counted}
+use Rattle.demands.proofs.NeverTen.{codes-never, written-never, checked-never, read-never, read-off-never, table-never, fitted-never, mended-never, refitted-never}
 
 -- ---- 1
 
@@ -97,25 +99,20 @@ found-as-before p f g same same′ room other =
     let v = finds f refl in
     (w .0 ∙ sym (v .0), w .1 ∙ sym (v .1), w .2 ∙ sym (v .2))
 
--- what was written is read back
-read-back : (w : A-write) (r : A-read) → w .answer .number ≡ 0 → read-bytes r ≡ written-bytes w → Room-for (knots (written-card w)) (places r)
-    → Accepts-as (written-card w) (r .answer) × (front (r .answer .knots) (places′ r) (r .answer .left) (r .answer .right) ≡ written-card w)
-read-back w r zero same room =
-    let held = written-held (w .promised .0) (w .promised .1) zero same in
-    let taken = takes (r .promised) (written-accepted (w .promised .0) (w .promised .1) zero same) (subst (λ k. Room-for (knots k) (places r)) (sym held) room) in
-    (accepts-its-card (read-bytes r) held (r .promised .answer) taken, reads-its-card (r .promised) taken ∙ held)
-
 two : Demand-2
 two =
     record {
       fit = λ c zero. eliminates (without-ends c) (c .promised) (fits c .accepts zero);
       fit-between = λ c zero. eliminates (between-ends c) (c .promised) (fits-between c .accepts zero);
       fit-rests = λ c zero. default-rests c (fits c .accepts zero);
-      fitted-is-written = λ c w zero same room. default-is-written c (fits c .accepts zero) w same room;
-      fitted-is-read = λ c w r zero same room read places-for.
-          let back = read-back w r (default-is-written c (fits c .accepts zero) w same room) read (subst (λ k. Room-for (knots k) (places r)) (sym same) places-for) in
-          (subst (λ k. Accepts-as k (r .answer)) same (back .0), back .1 ∙ same);
+      fitted-is-kept = λ c zero. default-is-kept c (fits c .accepts zero);
+      between-is-kept = λ c zero. between-is-kept c (fits-between c .accepts zero);
+      refit = fresh-eliminates;
+      fresh-is-kept = fresh-is-kept;
       mend = mend-eliminates;
+      mended-is-kept = mended-is-kept;
+      mend-lists = mend-lists;
+      mend-put-back = mend-put-back;
       mean = λ c zero. mean-given (first-minute c) (log c) (c .promised .0) (c .promised .1) (mean-answers (first-minute c) (log c) (c .promised .0) .0 .accepts zero);
       written-is-checked = λ w c zero same.
           accepts-its-card (checked-bytes c) (written-held (w .promised .0) (w .promised .1) zero same) (c .promised .0) (written-accepted (w .promised .0) (w .promised .1) zero same);
@@ -125,6 +122,7 @@ two =
           (again ∙ reads-its-card (r .promised) (accepts (read-answers (r .promised) .0) read-zero) ∙ ap card-of same) (w .promised .0) long;
       put-leaves-a-book = λ p zero. leaves-a-book (put-room p) (put-card p) (p .promised .0) (p .promised .1 .0) (p .promised .1 .1) zero;
       put-is-found = found-again;
+      hands-back = handed-back;
       cards-stay = λ p q n. others-cards (put-room p) (put-card p) (p .promised .0) (p .promised .1 .0) (p .promised .1 .1) q n;
       others-as-before = found-as-before;
     }
@@ -166,6 +164,10 @@ three =
       table-never-10 = λ c half e. table-never (table-bytes c) half (lists-for c) (from c) (sym (one .table c .number) ∙ e);
       book-find-never-10 = λ c half e. find-never (the-room c) (the-book c) half (sym (one .book-find c .number) ∙ e);
       book-put-never-10 = λ c half e. puts-never (put-room c) (put-card c) (put-book c) half (sym (one .book-put c .number) ∙ e);
+      fit-never-10 = λ c half e. fitted-never (without-ends c) given-never half (sym (fits c .number) ∙ e);
+      fit-between-never-10 = λ c half e. fitted-never (between-ends c) (codes-never _ _) half (sym (fits-between c .number) ∙ e);
+      mend-never-10 = λ c half e. mended-never (sheet-minutes c) (sheet c) _ _ _ half (sym (one .mend c .number) ∙ e);
+      refit-never-10 = λ c half fresh e. refitted-never c half fresh (sym (one .refit c .number) ∙ e);
       exact-solution = one-exact;
       mended-solution = one-mended-solution;
     }

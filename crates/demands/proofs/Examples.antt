@@ -1,5 +1,8 @@
--- The page is of something: Table 3's knots are accepted by the fit without ends; its card is accepted by the writer, its bytes by the card test, the reader, a reading and a table, and it is within
--- half a unit of an exact solution; it is put into a book and found there.
+-- The page is of something: each function accepts a call. Table 3's knots are accepted by the fit without
+-- ends and between free ends; its card is accepted by the writer, its bytes by the card test, the reader, a
+-- reading, a table and the fresh fit, and it is within half a unit of an exact solution, as are the numbers
+-- of these fits; it is put into a book and found there. P7's knots with a hole are mended, and P8's log has a
+-- mean.
 -- Assumes nothing.
 use mathlib.Core.Path.{_≡_, refl, sym, ap, _∙_, subst}
 use mathlib.Core.List.{List, [], _∷_, _++_}
@@ -7,20 +10,21 @@ use Prim.Native.Nat.{ℕ, zero, suc, _+_}
 use native.Mathlib.Omega.{arith}
 use borrow.Author.Tests.{le-ltb}
 use lib.Dec.{lit<, lit≤}
-use lib.IntN.{ℤ}
+use lib.IntN.{ℤ, pos}
 use lib.ListN.{length, getD, length-append}
 use base.Fml.{Lft, GName}
 use denote.Ref.{RefT}
-use Rattle.answer.specs.Answer.{Answer, refused, given, accepted, number}
+use Rattle.answer.specs.Answer.{Answer, refused, given, accepted, _then_, refuse, number}
 use Rattle.answer.specs.Lent.{lent-after}
 use Rattle.answer.proofs.Steps.{not-both, first-accepts, next-accepts, both-accept, accepts-refuse}
 use Rattle.front.specs.Front.{listed}
 use Rattle.curve.specs.Kind.{quintic}
 use Rattle.curve.specs.Card.{knots, knot}
 use Rattle.curve.specs.Steps.{lengths, counted as counted′, codes, size, room}
-use Rattle.curve.specs.Orders.{verdict, card-order, write-order, reading-order, reading}
+use Rattle.curve.specs.Log.{mean}
+use Rattle.curve.specs.Orders.{verdict, card-order, lists-order, write-order, reading-order, reading}
 use Rattle.curve.proofs.Gap.{card-in}
-use Rattle.curve.proofs.Cases.{table-3, p1, shown, value-slope, cases, hold}
+use Rattle.curve.proofs.Cases.{table-3, line, p1, shown, value-slope, mean-from, cases, hold}
 use Rattle.curve.proofs.Witness.{table-3-exact, table-3-near}
 use Rattle.minutes.specs.Search.{middle, look, looking, every-gap, found}
 use Rattle.card_bytes.specs.Bytes.{quintic-head, bytes-of}
@@ -33,9 +37,24 @@ use Rattle.card.specs.Promise.{Lists, into}
 use Rattle.table.specs.Table.{table-order, tabled}
 use Rattle.table.specs.Promise.{Columns, table-verdict, rows}
 use Rattle.writer.specs.Promise.{written}
-use Rattle.fit.specs.Fit.{fit}
+use Rattle.knots.specs.Lent.{lent}
+use Rattle.log.specs.Answers as Log-answers
+use Rattle.rows.specs.Floats.{f0}
+use Rattle.ends.specs.Ends.{end-by}
+use Rattle.fit.specs.Fit.{fit, fit-codes}
 use Rattle.fit.specs.Promise.{answered, slopes-after, curvatures-after}
+use Rattle.fit.proofs.Card.{its-card}
 use Rattle.fit.proofs.Table3.{fits-are}
+use Rattle.holes.specs.Hole.{hole, mended}
+use Rattle.mend.specs.Changes.{changes}
+use Rattle.mend.specs.Order.{mend}
+use Rattle.mend.specs.Promise as Mended
+use Rattle.mend.specs.Promise.{ordinates-after, list-after, no-change}
+use Rattle.mending.proofs.Examples.{mended-line}
+use Rattle.refit.specs.Fresh.{fresh, refit}
+use Rattle.refit.specs.Promise as Refit
+use Rattle.refit.specs.Promise.{refitted}
+use Rattle.refit.proofs.Unchanged.{free-is-fit-between}
 use Rattle.bytes.specs.Numbers.{le, Bytes}
 use Rattle.bytes.proofs.Numbers.{length-le, bytes-append, le-bytes}
 use Rattle.record.specs.Record.{header}
@@ -46,10 +65,10 @@ use Rattle.book_put.specs.Put.{entry, put-in, after}
 use Rattle.book_put.proofs.Answers.{fits}
 use Rattle.bookkeeping.proofs.Inverse.{no-room}
 use Rattle.kaihveto.specs.Types.{Minutes, Room}
-use Rattle.demands.specs.Calls.{A-fit, A-write, A-check, A-read, A-reading, A-table, A-book-put, A-book-find}
+use Rattle.demands.specs.Calls.{A-mean, A-fit, A-fit-between, without-ends, between-ends, card-between, worked-out, A-write, written-card, A-check, A-read, A-reading, A-table, A-refit, anew, A-mend, of-the-mended, A-book-put, A-book-find}
 use Rattle.demands.specs.Demands.{Is-given, Room-for, On-the-card, Half-a-unit}
-use Rattle.demands.proofs.RoundTrip.{takes}
 use Rattle.demands.proofs.Written.{card-bytes}
+use Rattle.demands.proofs.Witnesses.{rest-is-near, line-is-near}
 use Rattle.demands.proofs.Demands.{hold as hold-all}
 
 abbrev bytes : List ℕ
@@ -74,9 +93,12 @@ bytes-accepted =
     rw (table-3-bytes .2) (both-accept (table-3-bytes .3) (both-accept (first-accepts _ _ counted) (both-accept (first-accepts _ _ coded) (both-accept (table-3-bytes .4) sound))))
 
 -- within half a unit of an exact solution
-pub half : Half-a-unit (card-of bytes)
+p1-is-near : Half-a-unit p1
 unfolding p1
-half = subst Half-a-unit (sym (table-3-bytes .2)) (record { exact = table-3-exact; near = table-3-near })
+p1-is-near = record { exact = table-3-exact; near = table-3-near }
+
+pub half : Half-a-unit (card-of bytes)
+half = subst Half-a-unit (sym (table-3-bytes .2)) p1-is-near
 
 -- minute 4 stands on it
 pub minute-4 : On-the-card p1 4
@@ -101,13 +123,42 @@ writes : write-order quintic p1 (length bytes) ≡ accepted
 unfolding write-order room
 writes = both-accept card-accepted (accepts-refuse 26 0 (le-ltb (length bytes) (size (knots p1)) (omega (arith, length-card quintic-head p1))))
 
+-- P8
+abbrev log-of-p8 : List ℕ
+log-of-p8 = 100 ∷ 255 ∷ 102 ∷ []
+
+pub log-typed : Bytes log-of-p8
+unfolding Bytes
+log-typed zero = lit< tt
+log-typed (suc zero) = lit< tt
+log-typed (suc (suc zero)) = lit< tt
+log-typed (suc (suc (suc i))) = lit< tt
+
+mean-given : Is-given (mean 60 log-of-p8)
+unfolding cases mean-from
+mean-given = shown-given _ (mean 60 log-of-p8) (ap (λ l. getD l 9 (refused 0 0)) hold)
+
 -- Table 3's own lists, lent to be read into
 abbrev places-for : Lists
 places-for = record { minutes = p1 .minutes; ordinates = p1 .ordinates; slopes = p1 .slopes; curvatures = p1 .curvatures }
 
-room-for : Room-for (knots p1) places-for
+-- in which there is room for it
+pub room-for : Room-for (knots p1) places-for
 unfolding p1 table-3 knots
 room-for = record { minutes = lit≤ tt; ordinates = refl; slopes = refl; curvatures = refl }
+
+reads-into : into places-for bytes ≡ accepted
+unfolding into lists-order lengths room p1 table-3 knots
+reads-into = both-accept (accepts-refuse 3 0 refl) (both-accept bytes-accepted (rw (table-3-bytes .2) (accepts-refuse 26 0 refl)))
+
+-- its fit between free ends by their codes, and its fresh fit, are the card itself
+fits-by-codes : fit-codes (p1 .minutes) (p1 .ordinates) (length (p1 .slopes)) (length (p1 .curvatures)) 0 f0 f0 0 f0 f0 ≡ given p1
+unfolding p1 table-3 end-by codes quintic _then_ refuse
+fits-by-codes = fits-are .0
+
+refits : refit (length (p1 .slopes)) (length (p1 .curvatures)) bytes ≡ given p1
+unfolding refit into p1 table-3 knots
+refits = both-accept reads-into (ap fresh (table-3-bytes .2) ∙ free-is-fit-between p1 refl refl ∙ fits-are .0)
 
 -- and its list of slopes for each column of a table
 abbrev columns-for : Columns
@@ -160,6 +211,84 @@ module _ (lifetime : Lft) (pointer : ℕ × ℕ) (name : GName) where
   unfolding p1 table-3 number
   fit-accepts = ap (λ v. answered v .number) (fits-are .1)
 
+  -- between free ends
+  abbrev pub fit-between-call : A-fit-between
+  fit-between-call =
+      let f = fit-codes (p1 .minutes) (p1 .ordinates) (length (p1 .slopes)) (length (p1 .curvatures)) 0 f0 f0 0 f0 f0 in
+      let xs = list (p1 .minutes) in
+      let ys = list (p1 .ordinates) in
+      record {
+        lifetimes = (lifetime, (lifetime, (lifetime, (lifetime, tt))));
+        arguments = (xs, (ys, (list (p1 .slopes), (list (p1 .curvatures), (0, (f0, (f0, (0, (f0, (f0, tt))))))))));
+        answer = answered f;
+        exit = (xs, (ys, (list (slopes-after f (p1 .slopes)), (list (curvatures-after f (p1 .curvatures)), (0, (f0, (f0, (0, (f0, (f0, tt))))))))));
+        promised = record { answer = refl; slopes = refl; curvatures = refl };
+      }
+
+  pub fit-between-accepts : fit-between-call .answer .number ≡ 0
+  unfolding number
+  fit-between-accepts = ap (λ v. answered v .number) fits-by-codes
+
+  -- the numbers that both work out are near an exact solution
+  pub fits-are-near : Half-a-unit (worked-out (without-ends fit-call)) × Half-a-unit (worked-out (between-ends fit-between-call))
+  unfolding p1 table-3
+  fits-are-near = (
+    subst Half-a-unit (its-card _ _ _ _ _ _ _ (fits-are .1)) rest-is-near,
+    subst Half-a-unit (its-card _ _ _ _ _ _ _ fits-by-codes) p1-is-near,
+  )
+
+  abbrev pub mean-call : A-mean
+  mean-call =
+      record { lifetimes = (lifetime, tt); arguments = (60, (list log-of-p8, tt)); answer = Log-answers.answered (mean 60 log-of-p8); exit = (60, (list log-of-p8, tt)); promised = (refl, log-typed) }
+
+  pub mean-accepts : mean-call .answer .number ≡ 0
+  unfolding Log-answers.answered
+  mean-accepts = ap (λ v. Log-answers.answered v .number) (mean-given .is)
+
+  -- P7's knots with a hole in the middle, and a list of one place
+  abbrev pub mend-call : A-mend
+  mend-call =
+      let xs = line .minutes in
+      let ys = pos 0 ∷ hole ∷ pos 2 ∷ [] in
+      let cs = no-change ∷ [] in
+      let v = mend xs ys (length (line .slopes)) (length (line .curvatures)) (length cs) in
+      let made = changes ys (mended xs ys) in
+      record {
+        lifetimes = (lifetime, tt);
+        arguments = (list xs, (list ys, (list (line .slopes), (list (line .curvatures), (list cs, tt)))));
+        answer = Mended.answered v made;
+        exit = (list xs, (list (ordinates-after v ys), (list (slopes-after v (line .slopes)), (list (curvatures-after v (line .curvatures)), (list (list-after v made cs), tt)))));
+        promised = record { answer = refl; ordinates = refl; slopes = refl; curvatures = refl; changes = refl };
+      }
+
+  pub mend-accepts : mend-call .answer .number ≡ 0
+  unfolding line number
+  mend-accepts = ap number mended-line
+
+  pub mended-is-near : Half-a-unit (worked-out (of-the-mended mend-call))
+  unfolding line mend
+  mended-is-near = subst Half-a-unit (its-card _ _ _ _ _ _ _ (next-accepts _ _ mended-line)) line-is-near
+
+  -- into lists of just the card's places
+  abbrev pub refit-call : A-refit
+  refit-call =
+      let v = refit (length (p1 .slopes)) (length (p1 .curvatures)) bytes in
+      record {
+        lifetimes = (lifetime, (lifetime, (lifetime, tt)));
+        arguments = (list bytes, (list (p1 .slopes), (list (p1 .curvatures), tt)));
+        answer = refitted (card-of bytes) v;
+        exit = (list bytes, (list (Refit.after v (λ d. d .slopes) (p1 .slopes)), (list (Refit.after v (λ d. d .curvatures) (p1 .curvatures)), tt)));
+        promised = record { answer = refl; slopes = refl; curvatures = refl };
+      }
+
+  pub refit-accepts : refit-call .answer .number ≡ 0
+  unfolding refitted
+  refit-accepts = ap (λ v. refitted (card-of bytes) v .number) refits
+
+  pub fresh-is-near : Half-a-unit (worked-out (anew refit-call))
+  unfolding refit fresh
+  fresh-is-near = subst Half-a-unit (its-card _ _ _ _ _ _ _ (next-accepts _ _ refits)) p1-is-near
+
   abbrev pub check-call : A-check
   check-call = record { lifetimes = (lifetime, tt); arguments = (list bytes, tt); answer = checked (own bytes) (card-of bytes); exit = (list bytes, tt); promised = (refl, card-bytes quintic-head p1) }
 
@@ -198,6 +327,11 @@ module _ (lifetime : Lft) (pointer : ℕ × ℕ) (name : GName) where
   unfolding written
   write-accepts = ap (λ v. written v (size (knots p1)) .number) writes
 
+  -- what it writes is what the fit between free ends leaves
+  pub writes-the-fit : written-card write-call ≡ card-between fit-between-call
+  unfolding p1 table-3
+  writes-the-fit = sym (ap (λ v. lent (p1 .minutes) (p1 .ordinates) (slopes-after v (p1 .slopes)) (curvatures-after v (p1 .curvatures)) 0 0) fits-by-codes)
+
   -- into lists of just the card's places
   abbrev pub read-call : A-read
   read-call =
@@ -222,7 +356,7 @@ module _ (lifetime : Lft) (pointer : ℕ × ℕ) (name : GName) where
 
   pub read-accepts : read-call .answer .number ≡ 0
   unfolding checked
-  read-accepts = ap (λ v. checked v (card-of bytes) .number) (takes (read-call .promised) bytes-accepted (subst (λ c. Room-for (knots c) places-for) (sym (table-3-bytes .2)) room-for))
+  read-accepts = ap (λ v. checked v (card-of bytes) .number) reads-into
 
   -- from minute 4 on
   abbrev pub table-call : A-table

@@ -2,10 +2,13 @@ pub mod Numbered
 pub mod Answered
 pub mod RoundTrip
 pub mod Off
+pub mod NeverTen
 pub mod Given
 pub mod Books
 pub mod Demands
 pub mod FitToCard
+pub mod Anew
 pub mod Written
 pub mod MendedSheet
+pub mod Witnesses
 pub mod Examples

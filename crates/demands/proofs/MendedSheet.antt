@@ -6,12 +6,15 @@ use mathlib.Core.Path.{_≡_, refl, sym, ap, ap₂, subst, _∙_}
 use mathlib.Core.Logic.{_≢_}
 use mathlib.Core.List.{List}
 use lib.IntN.{ℤ}
-use lib.ListN.{length, drop}
+use lib.ListN.{length, take, drop}
 use Rattle.answer.specs.Answer.{Answer, refused, given, accepted, number, place}
 use Rattle.answer.proofs.Steps.{first-accepts, next-accepts, both-accept}
+use Rattle.curve.specs.Kind.{quintic}
 use Rattle.curve.specs.Card.{Card}
 use Rattle.curve.specs.Steps.{lengths}
+use Rattle.curve.specs.Orders.{verdict}
 use Rattle.curve.proofs.Accepted.{same-lengths}
+use Rattle.knots.specs.Lent.{lent}
 use Rattle.rows.specs.declared.End.the-variants.{Free}
 use Rattle.fit.specs.Promise.{Fits, slopes-after, curvatures-after}
 use Rattle.fit.specs.Fit.{card-of}
@@ -22,19 +25,21 @@ use Rattle.holes.specs.declared.Fill.the-variants.{Line}
 use Rattle.holes.specs.Hole.{mended}
 use Rattle.mend.specs.declared.Change.{Change}
 use Rattle.mend.specs.declared.Mended.{Mended}
-use Rattle.mend.specs.Changes.{changes}
+use Rattle.mend.specs.Changes.{changes, restored}
 use Rattle.mend.specs.Order.{mend-order, mend}
 use Rattle.mend.specs.Promise.{answered, ordinates-after, list-after}
 use Rattle.mend.proofs.Bridges.{length-filled}
 use Rattle.mend.proofs.Mending.{changes-in-room}
 use Rattle.mending.proofs.Numbered.{mend-numbered}
-use Rattle.mending.proofs.PutBack.{sheet-is}
+use Rattle.mending.specs.Listed.{Lists-the-holes}
+use Rattle.mending.proofs.PutBack.{sheet-is, given-back, lists-holes}
 use Rattle.mending.proofs.Afterwards.{mended-is-standing}
-use Rattle.demands.specs.Calls.{A-mend, sheet-minutes, sheet, sheet′, change-list, change-list′, of-the-mended, the-mending, the-fit}
-use Rattle.demands.specs.Demands.{Is-given, Says, Spares, Fit-spares, Eliminates}
+use Rattle.demands.specs.Calls.{A-mend, sheet-minutes, sheet, sheet′, change-list, change-list′, of-the-mended, mended-card, the-mending, the-fit}
+use Rattle.demands.specs.Demands.{Is-given, Says, Spares, Fit-spares, Eliminates, Kept}
 use Rattle.demands.proofs.Numbered.{says}
 use Rattle.demands.proofs.Answered.{over-front, spares-all}
 use Rattle.demands.proofs.Given.{eliminates}
+use Rattle.demands.proofs.FitToCard.{kept, fitted-passes}
 
 -- ---- what the answer says
 
@@ -141,3 +146,19 @@ module _ (c : A-mend) where
   one-mended-solution z =
       let g = mend-answers .0 .accepts z in
       subst (λ zs. OneSolution xs zs Free Free) (sym (sheet-mended (g .is))) (one-exact xs (mended xs ys) Free Free (taken-up (g .is)))
+
+  pub mended-is-kept : c .answer .number ≡ 0 → Kept (mended-card c)
+  mended-is-kept z =
+      let g = mend-answers .0 .accepts z in
+      let f = of-the-mended c in
+      let e = mend-eliminates z in
+      kept (mended-card c)
+      (subst (λ ys. verdict quintic (lent xs ys (f .slopes′) (f .curvatures′) 0 0) ≡ accepted) (sym (e .0)) (fitted-passes f (record { what = g .what; is = fitted (g .is) }) (e .1)))
+
+  -- ---- what the list of changes has, and what it gives back
+
+  pub mend-lists : c .answer .number ≡ 0 → Lists-the-holes ys (sheet′ c) (c .answer .count) (change-list′ c)
+  mend-lists z = lists-holes xs (c .promised) (mend-answers .0 .accepts z .is)
+
+  pub mend-put-back : restored (take (c .answer .count) (change-list′ c)) (sheet′ c) ≡ ys
+  mend-put-back = given-back xs (c .promised)

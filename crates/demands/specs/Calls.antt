@@ -1,13 +1,13 @@
 -- Calls of the functions of the boundary (crates/kaihveto/src/lib.rt): what a function is called with, what it answers and what it leaves, by its promise as the prover reads it from the
 -- source. What holds of every such call holds of the function. Assumes nothing.
-use Prim.Native.Nat.{ℕ}
+use Prim.Native.Nat.{ℕ, _-_}
 use mathlib.Core.List.{List}
 use lib.IntN.{ℤ, pos}
 use lib.ListN.{length, getD, take, drop}
 use denote.Ref.{now}
 use Rattle.answer.specs.Answer.{Answer, Verdict, accepted}
 use Rattle.curve.specs.Kind.{quintic}
-use Rattle.curve.specs.Card.{Card}
+use Rattle.curve.specs.Card.{Card, knots, knot}
 use Rattle.curve.specs.Reading.{Reading}
 use Rattle.curve.specs.Steps.{codes}
 use Rattle.knots.specs.Lent.{lent}
@@ -15,11 +15,14 @@ use Rattle.rows.specs.declared.End.{End}
 use Rattle.rows.specs.declared.End.the-variants.{Free}
 use Rattle.ends.specs.Ends.{end-by}
 use Rattle.fit.specs.declared.Fitted.{Fitted}
+use Rattle.fit.specs.Fit as Fit
 use Rattle.fit.specs.Fit.{fit-of, default-left, default-right}
 use Rattle.holes.specs.Hole.{mended}
 use Rattle.mend.specs.declared.Change.{Change}
 use Rattle.mend.specs.Order as Order
+use Rattle.card_bytes.specs.Held.{card-of}
 use Rattle.card.specs.Promise.{Lists, lists}
+use Rattle.refit.specs.Fresh.{hundredths}
 use Rattle.table.specs.Promise.{Columns, columns}
 use Rattle.kaihveto.proofs.kaihveto_mean.Reads as mean
 use Rattle.kaihveto.proofs.kaihveto_fit.Reads as fit
@@ -91,9 +94,13 @@ without-ends c =
       answer = c .answer;
     }
 
--- the card of what it leaves: its ends have the codes 1 and 0
+-- the card of what a fit leaves, with these codes of its ends
+abbrev pub fitted-with : Fitting → (left right : ℕ) → Card
+fitted-with f left right = lent (f .minutes) (f .ordinates) (f .slopes′) (f .curvatures′) left right
+
+-- without ends they are 1 and 0
 abbrev pub fitted-card : A-fit → Card
-fitted-card c = let f = without-ends c in lent (f .minutes) (f .ordinates) (f .slopes′) (f .curvatures′) 1 0
+fitted-card c = fitted-with (without-ends c) 1 0
 
 abbrev pub between-ends : A-fit-between → Fitting
 between-ends c =
@@ -112,9 +119,17 @@ between-ends c =
       answer = c .answer;
     }
 
+-- between ends they are the codes that were asked
+abbrev pub card-between : A-fit-between → Card
+card-between c = let ends = c .arguments .1 .1 .1 .1 in fitted-with (between-ends c) (ends .0) (ends .1 .1 .1 .0)
+
 -- document 01's fit of it
 abbrev pub the-fit : Fitting → Answer Card
 the-fit f = fit-of (f .minutes) (f .ordinates) (f .left) (f .right) (length (f .slopes)) (length (f .curvatures)) (f .named)
+
+-- the card that its elimination gives, accepted or not
+abbrev pub worked-out : Fitting → Card
+worked-out f = Fit.card-of (f .minutes) (f .ordinates) (f .left) (f .right)
 
 -- ---- kaihveto_write(minutes, ordinates, slopes, curvatures, left, right, buffer)
 
@@ -212,6 +227,35 @@ fresh-slopes′ c = now (c .exit .1 .0)
 abbrev pub fresh-curvatures′ : A-refit → List ℤ
 fresh-curvatures′ c = now (c .exit .1 .1 .0)
 
+-- the card in its bytes
+abbrev pub old-card : A-refit → Card
+old-card c = card-of (refit-bytes c)
+
+-- its own knots fitted anew, between ends of its own codes that are given its own numbers, at the front of
+-- the lent lists
+abbrev pub anew : A-refit → Fitting
+anew c =
+    let old = old-card c in
+    let n = knots old in
+    let first = knot old 0 in
+    let last = knot old (n - 1) in
+    record {
+      minutes = old .minutes;
+      ordinates = old .ordinates;
+      slopes = take n (fresh-slopes c);
+      curvatures = take n (fresh-curvatures c);
+      slopes′ = take n (fresh-slopes′ c);
+      curvatures′ = take n (fresh-curvatures′ c);
+      left = end-by (old .left) (hundredths (first .m)) (hundredths (first .M));
+      right = end-by (old .right) (hundredths (last .m)) (hundredths (last .M));
+      named = codes quintic (old .left) (old .right);
+      answer = record { number = c .answer .number; place = c .answer .place };
+    }
+
+-- the card of what it leaves
+abbrev pub fresh-card : A-refit → Card
+fresh-card c = fitted-with (anew c) (old-card c .left) (old-card c .right)
+
 -- ---- kaihveto_mend(minutes, ordinates, slopes, curvatures, changes)
 
 abbrev pub A-mend : Type 0
@@ -249,6 +293,10 @@ of-the-mended c =
       named = accepted;
       answer = record { number = c .answer .number; place = c .answer .place };
     }
+
+-- the card of what it leaves: its ends have the codes 0 and 0
+abbrev pub mended-card : A-mend → Card
+mended-card c = let f = of-the-mended c in lent (sheet-minutes c) (sheet′ c) (f .slopes′) (f .curvatures′) 0 0
 
 -- its order
 abbrev pub the-mending : A-mend → Answer Card

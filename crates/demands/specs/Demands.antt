@@ -2,7 +2,7 @@
 -- the others (specs/Calls). What is cited is document 01 as definitions. proofs/Demands proves it all. Assumes nothing.
 use mathlib.Core.Path.{_≡_}
 use mathlib.Core.Logic.{_≢_}
-use mathlib.Core.List.{List}
+use mathlib.Core.List.{List, []}
 use Prim.Native.Nat.{ℕ, _+_, _-_, _*_, _^_, _≤_, _<_, min}
 use lib.IntN.{ℤ, pos}
 use lib.ListN.{length, take, drop}
@@ -33,12 +33,14 @@ use Rattle.card.specs.declared.Checked.{Checked}
 use Rattle.card.specs.Answers.{own}
 use Rattle.card.specs.Promise.{Lists, into}
 use Rattle.table.specs.Promise.{table-verdict}
+use Rattle.mend.specs.Changes.{restored}
+use Rattle.mending.specs.Listed.{Lists-the-holes}
 use Rattle.refit.specs.Fresh as Fresh
 use Rattle.book.specs.Book.{Entry, book-bytes, size, book}
 use Rattle.book.specs.Lookup.{look-up}
 use Rattle.book_put.specs.Put as Put
 use Rattle.bookkeeping.specs.Card.{card-in}
-use Rattle.demands.specs.Calls.{A-mean, first-minute, log, A-fit, A-fit-between, Fitting, without-ends, fitted-card, between-ends, the-fit, A-write, written-card, buffer, buffer′, A-check, checked-bytes, A-read, read-bytes, places, places′, A-reading, reading-bytes, minute, three, A-table, table-bytes, from, lists-for, lists-for′, row, A-refit, refit-bytes, fresh-slopes, fresh-curvatures, fresh-slopes′, fresh-curvatures′, A-mend, sheet-minutes, sheet, sheet′, change-list, change-list′, of-the-mended, the-mending, A-book-find, the-book, the-room, the-part, A-book-put, put-book, put-book′, put-room, put-card}
+use Rattle.demands.specs.Calls.{A-mean, first-minute, log, A-fit, A-fit-between, Fitting, without-ends, fitted-card, between-ends, card-between, the-fit, worked-out, A-write, written-card, buffer, buffer′, A-check, checked-bytes, A-read, read-bytes, places, places′, A-reading, reading-bytes, minute, three, A-table, table-bytes, from, lists-for, lists-for′, row, A-refit, refit-bytes, fresh-slopes, fresh-curvatures, fresh-slopes′, fresh-curvatures′, old-card, anew, fresh-card, A-mend, sheet-minutes, sheet, sheet′, change-list, change-list′, of-the-mended, mended-card, the-mending, A-book-find, the-book, the-room, the-part, A-book-put, put-book, put-book′, put-room, put-card}
 
 -- ---- 1. "Every input gets an answer: bad knots, logs, cards and minutes are refused by number and place, the numbers beside a refusal are zero, and lent memory stays untouched."
 
@@ -157,6 +159,13 @@ front n l left right = lent (take n (l .minutes)) (take n (l .ordinates)) (take 
 abbrev pub written-bytes : A-write → List ℕ
 written-bytes w = take (w .answer .bytes) (buffer′ w)
 
+-- a card that the writer accepts where there is room; and what is written then is accepted with its codes,
+-- and read back
+pub record Kept (card : Card) : Type 0 where
+  pub is-written : (w : A-write) → written-card w ≡ card → card-size (knots card) ≤ length (buffer w) → w .answer .number ≡ 0
+  pub is-read : (w : A-write) (r : A-read) → written-card w ≡ card → card-size (knots card) ≤ length (buffer w) → read-bytes r ≡ written-bytes w → Room-for (knots card) (places r)
+      → Accepts-as card (r .answer) × (front (r .answer .knots) (places′ r) (r .answer .left) (r .answer .right) ≡ card)
+
 -- a sound book at the front of a list, of these rooms, with n bytes in use
 pub record Holds-a-book (n : ℕ) (s : List ℕ) : Type 0 where
   pub rooms : List Entry
@@ -164,19 +173,32 @@ pub record Holds-a-book (n : ℕ) (s : List ℕ) : Type 0 where
   pub in-use : n ≡ size rooms
   pub bytes : take n s ≡ book-bytes rooms
 
+-- "the part of the book that holds its card (an empty part on refusal)"
+pub record Hands-back (c : A-book-find) : Type 0 where
+  pub inside : c .answer .start + c .answer .length ≤ length (the-book c)
+  pub its-card : c .answer .number ≡ 0 → card-in (the-room c) (the-book c) ≡ Answer.given (the-part c)
+  pub none : c .answer .number ≢ 0 → the-part c ≡ []
+
 pub record Demand-2 : Type 0 where
   -- "The fit is exactly the elimination that the paper prescribes, each operation rounded once"
   pub fit : (c : A-fit) → c .answer .number ≡ 0 → Eliminates (without-ends c)
   pub fit-between : (c : A-fit-between) → c .answer .number ≡ 0 → Eliminates (between-ends c)
-  -- and without ends it starts at rest, with slope 0 and curvature 0 at the first knot: what it leaves, the writer accepts with the codes 1 and 0,
+  -- and without ends it starts at rest, with slope 0 and curvature 0 at the first knot: what it leaves is
+  -- kept with the codes 1 and 0
   pub fit-rests : (c : A-fit) → c .answer .number ≡ 0 → (knot (fitted-card c) 0 .m ≡ pos 0) × (knot (fitted-card c) 0 .M ≡ pos 0)
-  pub fitted-is-written : (c : A-fit) (w : A-write) → c .answer .number ≡ 0 → written-card w ≡ fitted-card c → card-size (knots (fitted-card c)) ≤ length (buffer w) → w .answer .number ≡ 0
-  -- and what is written then is accepted with these codes, and read back
-  pub fitted-is-read : (c : A-fit) (w : A-write) (r : A-read) → c .answer .number ≡ 0 → written-card w ≡ fitted-card c → card-size (knots (fitted-card c)) ≤ length (buffer w)
-      → read-bytes r ≡ written-bytes w → Room-for (knots (fitted-card c)) (places r)
-      → Accepts-as (fitted-card c) (r .answer) × (front (r .answer .knots) (places′ r) (r .answer .left) (r .answer .right) ≡ fitted-card c)
-  -- and so of a mended sheet
+  pub fitted-is-kept : (c : A-fit) → c .answer .number ≡ 0 → Kept (fitted-card c)
+  -- and between ends with the codes that were asked
+  pub between-is-kept : (c : A-fit-between) → c .answer .number ≡ 0 → Kept (card-between c)
+  -- and so of a card that is fitted anew, between its own ends
+  pub refit : (c : A-refit) → c .answer .number ≡ 0 → (c .answer .knots ≡ knots (old-card c)) × Eliminates (anew c)
+  pub fresh-is-kept : (c : A-refit) → c .answer .number ≡ 0 → Kept (fresh-card c)
+  -- and of a mended sheet, with the codes 0 and 0
   pub mend : (c : A-mend) → c .answer .number ≡ 0 → (sheet′ c ≡ of-the-mended c .ordinates) × Eliminates (of-the-mended c)
+  pub mended-is-kept : (c : A-mend) → c .answer .number ≡ 0 → Kept (mended-card c)
+  -- its list at exit has exactly the holes,
+  pub mend-lists : (c : A-mend) → c .answer .number ≡ 0 → Lists-the-holes (sheet c) (sheet′ c) (c .answer .count) (change-list′ c)
+  -- and "Putting the old numbers back from the list" gives the sheet as it came, after a refusal too
+  pub mend-put-back : (c : A-mend) → restored (take (c .answer .count) (change-list′ c)) (sheet′ c) ≡ sheet c
   -- "logs give the stated mean": 50 × sum ÷ count over the good bytes, rounded to nearest, ties to even, with their count, at the log's middle, which is a minute that a fit takes;
   -- and the count of the faults: each by its own rule, together the log's length, and the good bytes at least half of it
   pub mean : (c : A-mean) → c .answer .number ≡ 0 →
@@ -197,6 +219,8 @@ pub record Demand-2 : Type 0 where
   -- in which the card is found,
   pub put-is-found : (p : A-book-put) (f : A-book-find) → p .answer .number ≡ 0 → the-book f ≡ put-book′ p → the-room f ≡ put-room p →
       (f .answer .number ≡ 0) × (the-part f ≡ put-card p)
+  -- what is found is that room's card in the book;
+  pub hands-back : (f : A-book-find) → Hands-back f
   -- "Each other room's card stays byte for byte", accepted or damaged, refused puts too;
   pub cards-stay : (p : A-book-put) (q : ℕ) → q ≢ put-room p → card-in q (put-book′ p) ≡ card-in q (put-book p)
   -- and looking it up gives what it gave before
@@ -262,6 +286,11 @@ pub record Demand-3 : Type 0 where
   pub table-never-10 : (c : A-table) → Half-a-unit (card-of (table-bytes c)) → c .answer .number ≢ 10
   pub book-find-never-10 : (c : A-book-find) → ((card : List ℕ) → card-in (the-room c) (the-book c) ≡ Answer.given card → Half-a-unit (card-of card)) → c .answer .number ≢ 10
   pub book-put-never-10 : (c : A-book-put) → Half-a-unit (card-of (put-card c)) → c .answer .number ≢ 10
+  -- nor the numbers that a fit works out
+  pub fit-never-10 : (c : A-fit) → Half-a-unit (worked-out (without-ends c)) → c .answer .number ≢ 10
+  pub fit-between-never-10 : (c : A-fit-between) → Half-a-unit (worked-out (between-ends c)) → c .answer .number ≢ 10
+  pub mend-never-10 : (c : A-mend) → Half-a-unit (worked-out (of-the-mended c)) → c .answer .number ≢ 10
+  pub refit-never-10 : (c : A-refit) → Half-a-unit (old-card c) → Half-a-unit (worked-out (anew c)) → c .answer .number ≢ 10
   -- and there is one for every sheet that a fit takes up: the exact solution between the fit's own ends, rounded to card units
   pub exact-solution : (minutes : List ℕ) (ordinates : List ℤ) (left right : End) → before-8 minutes ordinates left right ≡ accepted → OneSolution minutes ordinates left right
   -- the sheet that was mended has one

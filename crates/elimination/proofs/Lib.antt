@@ -1,2 +1,3 @@
 pub mod Infinity
 pub mod Cases
+pub mod Examples

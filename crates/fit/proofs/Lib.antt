@@ -6,5 +6,6 @@ pub mod Card
 pub mod Numbered
 pub mod Outcome
 pub mod Table3
+pub mod Uneven
 pub mod Nought
 pub mod AtRest

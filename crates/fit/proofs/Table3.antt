@@ -1,5 +1,5 @@
 -- Table 3 of document 000 as document 01 scales it, by computation of the definitions: between free ends the fit of its knots is its card, and without ends it is the card that starts at
--- rest. Assumes nothing.
+-- rest; and P7's. Assumes nothing.
 use Prim.Native.Nat.{ℕ}
 use mathlib.Core.Path.{_≡_, refl}
 use mathlib.Core.List.{[], _∷_}
@@ -14,7 +14,7 @@ use Rattle.curve.specs.Card.{Card, knots, knot, back, on, gap, spot, joint}
 use Rattle.curve.specs.Jump.{inverse, clear, over, rise, jump, allowed, jumps}
 use Rattle.curve.specs.Steps.{slope-beyond, curvature-beyond, lengths, counted, stands, in-range, smooth}
 use Rattle.curve.specs.Orders.{numbers-sound, fit-order}
-use Rattle.curve.proofs.Cases.{table-3, p1}
+use Rattle.curve.proofs.Cases.{table-3, line, p1}
 use Rattle.rows.specs.declared.End.the-variants.{Free}
 use Rattle.rows.specs.Equations as Equations
 use Rattle.elimination.specs.Elimination.{system}
@@ -40,12 +40,13 @@ at-rest left =
       right = 0;
     }
 
--- both fits; and with the code of a free end on the left the second is no sound card
+-- both fits; with the code of a free end on the left the second is no sound card; and between free ends the
+-- fit of P7's knots is its card
 pub fits-are :
     (fit-between (p1 .minutes) (p1 .ordinates) 5 5 Free Free ≡ given p1) × (fit (p1 .minutes) (p1 .ordinates) 5 5 ≡ given (at-rest 1))
-    × (numbers-sound quintic (at-rest 0) ≡ refused 10 0)
-unfolding p1 table-3 at-rest add sub mul div neg ofBits ofInt ne lt beyond nearest _then_ refuse each power worth ∂ ∂^ amount degree rightward leftward allowance quintic-asks quintic knots
+    × (numbers-sound quintic (at-rest 0) ≡ refused 10 0) × (fit-between (line .minutes) (line .ordinates) 3 3 Free Free ≡ given line)
+unfolding p1 table-3 line at-rest add sub mul div neg ofBits ofInt ne lt beyond nearest _then_ refuse each power worth ∂ ∂^ amount degree rightward leftward allowance quintic-asks quintic knots
     knot back on gap spot joint inverse clear over rise jump allowed jumps slope-beyond curvature-beyond lengths counted stands in-range smooth numbers-sound fit-order
     Equations.gap Equations.no-gap Equations.equations system Refusal.solved Refusal.eliminated end-of knot-between right-gap left-gap knot-at runTo turned backTo back-from passes
     units-of ends solved eliminated card-of fit-of
-fits-are = (refl, refl, refl)
+fits-are = (refl, refl, refl, refl)

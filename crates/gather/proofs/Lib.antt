@@ -1,2 +1,3 @@
 pub mod Folding
 pub mod Closing
+pub mod Marks

@@ -1,3 +1,4 @@
 pub mod Marks
 pub mod Sides
 pub mod Lines
+pub mod Examples

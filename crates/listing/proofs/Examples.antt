@@ -1,8 +1,9 @@
 -- Document 01's listing of Table 3, whole, and the line of a refusal; the same with the faults of a log behind one of its knots, none of them and 60. Computed from the definitions; assumes nothing.
-use Prim.Native.Nat.{ℕ}
+use Prim.Native.Nat.{ℕ, _<_}
 use Prim.Native.String.{String}
 use mathlib.Core.Path.{_≡_, refl}
 use mathlib.Core.List.{List, [], _∷_, _++_}
+use lib.Dec.{lit<}
 use lib.IntN.{ℤ, pos, negsuc}
 use Rattle.decimal.specs.Decimal.{spelled, digits, signed, field}
 use Rattle.listing.specs.Text.{four-fields, knot-line, counted-line, no-log, listed-line, ok-line, refused-line, lines, line-of, listing}
@@ -34,3 +35,7 @@ pub table-3 :
     × (of-a-log no-log ≡ printed "8 0 230400 83200\n") × (of-a-log 0 ≡ printed "8 0 230400 83200 0\n") × (of-a-log 60 ≡ printed "8 0 230400 83200 60\n")
 unfolding spelled digits signed field four-fields knot-line counted-line listed-line ok-line refused-line lines line-of listing
 table-3 = (refl, refl, refl, refl, refl, refl)
+
+-- a log has at most 60 faults, and the mark is above each count of them
+pub above-every-count : 60 < no-log
+above-every-count = lit< tt

@@ -11,10 +11,12 @@ use lib.IntN.{ℤ, pos, negsuc}
 use lib.ListN.{length, getD, length-append, List·getD-append}
 use lib.Seq.{getD-append-seam}
 use borrow.Author.Tests.{eqb-true}
-use Rattle.holes.specs.Hole.{hole, is-hole, hole-at}
+use Rattle.holes.specs.Hole.{hole, is-hole, hole-at, holes}
 use Rattle.mend.specs.declared.Change.{Change}
 use Rattle.mend.specs.Changes.{change-at, changes-to, changes}
 use Rattle.mend.specs.Promise.{no-change}
+use Rattle.mend.proofs.Columns.{as-many-as-holes}
+use Rattle.mending.specs.Listed.{Listed-at, Of-a-hole, Lists-the-holes}
 
 -- the mark is one number
 pub hole-is : (y : ℤ) → is-hole y ≡ true → y ≡ hole
@@ -47,29 +49,19 @@ module _ (ys zs : List ℤ) where
           (λ q. subst P (sym (others-are (changes-to ys zs i) (change-at ys zs i) k q)) (ih k q)) (last-or-other (changes-to ys zs i) (change-at ys zs i) k l)
       go false e ih k l = subst (λ cs. P (getD cs k no-change)) (sym (append-nil (changes-to ys zs i))) (ih k (subst (λ cs. k < length cs) (append-nil (changes-to ys zs i)) l))
 
-  -- a change of a hole
-  pub record Of-a-hole (c : Change) : Type 0 where
-    pub inside : c .place < length ys
-    pub was-hole : hole-at ys (c .place) ≡ true
-    pub old-is : c .old ≡ hole
-    pub new-is : c .new ≡ getD zs (c .place) (pos 0)
-
-  pub only-holes : (k : ℕ) → k < length (changes ys zs) → Of-a-hole (getD (changes ys zs) k no-change)
+  pub only-holes : (k : ℕ) → k < length (changes ys zs) → Of-a-hole ys zs (getD (changes ys zs) k no-change)
   unfolding changes change-at hole-at
-  only-holes = each-change Of-a-hole (length ys) (λ j l e. record { inside = l; was-hole = e; old-is = hole-is (getD ys j (pos 0)) e; new-is = refl })
+  only-holes = each-change (Of-a-hole ys zs) (length ys) (λ j l e. record { inside = l; was-hole = e; old-is = hole-is (getD ys j (pos 0)) e; new-is = refl })
 
-  -- a place of the list of changes where a knot stands
-  pub record Listed-at (cs : List Change) (j : ℕ) : Type 0 where
-    pub at : ℕ
-    pub within : at < length cs
-    pub is : getD cs at no-change .place ≡ j
-
-  listed-to : (i j : ℕ) → j < i → hole-at ys j ≡ true → Listed-at (changes-to ys zs i) j
+  listed-to : (i j : ℕ) → j < i → hole-at ys j ≡ true → Listed-at (length (changes-to ys zs i)) (changes-to ys zs i) j
   unfolding changes-to change-at
   listed-to zero j l e = absurd (omega arith)
   listed-to (suc i) j l e = go (hole-at ys i) refl (λ q. listed-to i j q e)
     where
-      go : (t : Bool) → hole-at ys i ≡ t → (j < i → Listed-at (changes-to ys zs i) j) → Listed-at (changes-to ys zs i ++ cond t (change-at ys zs i ∷ []) []) j
+      Listed : List Change → Type 0
+      Listed cs = Listed-at (length cs) cs j
+
+      go : (t : Bool) → hole-at ys i ≡ t → (j < i → Listed (changes-to ys zs i)) → Listed (changes-to ys zs i ++ cond t (change-at ys zs i ∷ []) [])
       go true f ih =
           let cs = changes-to ys zs i in
           let c = change-at ys zs i in
@@ -78,9 +70,9 @@ module _ (ys zs : List ℤ) where
           (λ q. let h = ih q in record { at = h .at; within = omega (arith, long, h .within); is = ap (λ c. c .place) (others-are cs c (h .at) (h .within)) ∙ h .is }) (eq-or-lt-of-le {n = j} {m = i} (omega arith))
       go false f ih =
           let other : j ≡ i → ⊥ = λ q. true≢false (sym e ∙ ap (hole-at ys) q ∙ f) in
-          subst (λ cs. Listed-at cs j) (sym (append-nil (changes-to ys zs i))) (ih (⊎-elim (λ q. absurd (other q)) (λ q. q) (eq-or-lt-of-le {n = j} {m = i} (omega arith))))
+          subst Listed (sym (append-nil (changes-to ys zs i))) (ih (⊎-elim (λ q. absurd (other q)) (λ q. q) (eq-or-lt-of-le {n = j} {m = i} (omega arith))))
 
-  pub every-hole : (j : ℕ) → j < length ys → hole-at ys j ≡ true → Listed-at (changes ys zs) j
+  pub every-hole : (j : ℕ) → j < length ys → hole-at ys j ≡ true → Listed-at (length (changes ys zs)) (changes ys zs) j
   unfolding changes
   every-hole = listed-to (length ys)
 
@@ -110,3 +102,21 @@ module _ (ys zs : List ℤ) where
   pub places-rise : (a b : ℕ) → a < b → b < length (changes ys zs) → getD (changes ys zs) a no-change .place < getD (changes ys zs) b no-change .place
   unfolding changes
   places-rise = rising-to (length ys)
+
+  -- over the front of a list they are all that its first places have
+  pub lists-the-holes : (rest : List Change) → Lists-the-holes ys zs (length (changes ys zs)) (changes ys zs ++ rest)
+  unfolding changes holes
+  lists-the-holes rest =
+      record {
+        counted = as-many-as-holes ys zs (length ys);
+        room = omega (arith, length-append cs rest);
+        only-holes = λ k l. subst (Of-a-hole ys zs) (sym (front k l)) (only-holes k l);
+        every-hole = λ j l e. let h = every-hole j l e in record { at = h .at; within = h .within; is = ap (λ c. c .place) (front (h .at) (h .within)) ∙ h .is };
+        rising = λ a b l m. rw (front a (omega (arith, l, m)), front b m) (places-rise a b l m);
+      }
+    where
+      cs : List Change
+      cs = changes ys zs
+
+      front : (k : ℕ) → k < length cs → getD (cs ++ rest) k no-change ≡ getD cs k no-change
+      front k l = List·getD-append cs rest no-change k l

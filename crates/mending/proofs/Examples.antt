@@ -6,13 +6,16 @@ use mathlib.Core.List.{List, [], _∷_, map}
 use lib.IntN.{ℤ, pos}
 use lib.ListN.{getD}
 use Rattle.whole.specs.Whole.{nearest, minus, beyond}
-use Rattle.answer.specs.Answer.{Verdict, refused, accepted, _then_, refuse, each}
+use Rattle.answer.specs.Answer.{Verdict, refused, given, accepted, _then_, refuse, each}
 use Rattle.curve.specs.Kind.{quintic}
 use Rattle.curve.specs.Card.{back}
 use Rattle.curve.specs.Steps.{lengths, counted, stands}
-use Rattle.holes.specs.Hole.{hole, is-hole, line, hole-at, before, after, left-of, right-of, bridged, holes, holes-to, line-at, put-at, filled-at, filled, mended}
+use Rattle.curve.proofs.Cases.{line}
+use Rattle.fit.proofs.Table3.{fits-are}
+use Rattle.holes.specs.Hole as Hole
+use Rattle.holes.specs.Hole.{hole, is-hole, hole-at, before, after, left-of, right-of, bridged, holes, holes-to, line-at, put-at, filled-at, filled, mended}
 use Rattle.mend.specs.Changes.{change-at, changes-to, changes, restored}
-use Rattle.mend.specs.Order.{mendable, mend-order}
+use Rattle.mend.specs.Order.{mendable, mend-order, mend}
 
 -- the number in the middle between 0 and an ordinate
 abbrev middle : ℤ → ℤ
@@ -22,12 +25,12 @@ middle z = getD (mended (0 ∷ 2 ∷ 4 ∷ []) (pos 0 ∷ hole ∷ z ∷ [])) 1 
 pub ties-to-even :
     map middle (pos 1 ∷ pos 3 ∷ pos 5 ∷ pos 7 ∷ minus 1 ∷ minus 3 ∷ minus 5 ∷ minus 7 ∷ [])
     ≡ (pos 0 ∷ pos 2 ∷ pos 2 ∷ pos 4 ∷ pos 0 ∷ minus 2 ∷ minus 2 ∷ minus 4 ∷ [])
-unfolding filled filled-at put-at line-at line nearest hole-at is-hole before after left-of right-of
+unfolding filled filled-at put-at line-at Hole.line nearest hole-at is-hole before after left-of right-of
 ties-to-even = refl
 
 -- two holes in a row: both lie on the line between the sound knots, at a third and at two thirds; from the first, once filled, the second would come to 0
 pub in-a-row : mended (0 ∷ 1 ∷ 2 ∷ 3 ∷ []) (pos 0 ∷ hole ∷ hole ∷ pos 1 ∷ []) ≡ (pos 0 ∷ pos 0 ∷ pos 1 ∷ pos 1 ∷ [])
-unfolding filled filled-at put-at line-at line nearest hole-at is-hole before after left-of right-of
+unfolding filled filled-at put-at line-at Hole.line nearest hole-at is-hole before after left-of right-of
 in-a-row = refl
 
 -- their list, in rising order, and the sheet as it came
@@ -57,3 +60,9 @@ pub answers :
     ≡ (accepted ∷ refused 18 0 ∷ accepted ∷ refused 17 0 ∷ refused 17 2 ∷ refused 17 1 ∷ refused 17 0 ∷ refused 6 1 ∷ refused 6 1 ∷ refused 4 2 ∷ refused 5 1 ∷ refused 1 0 ∷ refused 3 0 ∷ [])
 unfolding mend-order mendable lengths counted quintic each stands back beyond bridged refuse _then_ filled filled-at put-at holes holes-to hole-at is-hole before after right-of
 answers = refl
+
+-- P7's knots with a hole in the middle: mended and fitted they are its card
+pub mended-line : mend (line .minutes) (pos 0 ∷ hole ∷ pos 2 ∷ []) 3 3 1 ≡ given line
+unfolding mend mend-order mendable lengths counted quintic each stands back beyond bridged refuse _then_ filled filled-at put-at line-at Hole.line nearest holes holes-to hole-at is-hole
+    before after left-of right-of line
+mended-line = fits-are .3

@@ -22,9 +22,11 @@ use Rattle.mend.specs.declared.Change.{Change}
 use Rattle.mend.specs.declared.Mended.{Mended}
 use Rattle.mend.specs.Changes.{change-at, changes-to, changes, restored}
 use Rattle.mend.specs.Order.{mend}
-use Rattle.mend.specs.Promise.{made, ordinates-after, Mends}
+use Rattle.mend.specs.Promise.{made, ordinates-after, list-after, Mends}
 use Rattle.mend.proofs.Bridges.{length-filled, sound-stays}
 use Rattle.mend.proofs.Columns.{as-many-as-holes}
+use Rattle.mending.specs.Listed.{Lists-the-holes}
+use Rattle.mending.proofs.Changed.{lists-the-holes}
 
 restored-append : (a b : List Change) (l : List ℤ) → restored (a ++ b) l ≡ restored b (restored a l)
 unfolding restored
@@ -98,6 +100,15 @@ module _ (xs : List ℕ) {ys ms Ms : List ℤ} {list : List Change} {ys′ ms′
   pub counts-holes : {card : Card} → order ≡ given card → r .count ≡ holes ys
   unfolding changes holes
   counts-holes e = ap (λ r. r .count) (h .answer) ∙ ap (λ v. length (made v (changes ys (mended xs ys)))) e ∙ as-many-as-holes ys (mended xs ys) (length ys)
+
+  -- the list at exit has exactly the holes
+  pub lists-holes : {card : Card} → order ≡ given card → Lists-the-holes ys ys′ (r .count) list′
+  lists-holes e =
+      let zs = mended xs ys in
+      let cs = changes ys zs in
+      let is = h .changes ∙ ap (λ v. list-after v cs list) e in
+      let counted = ap (λ r. r .count) (h .answer) ∙ ap (λ v. length (made v cs)) e in
+      rw (is, sheet-is e, counted) (lists-the-holes ys zs (drop (length cs) list))
 
   -- "nothing else changes": a sound knot's number never does
   pub sound-knots-stay : (j : ℕ) → j < length ys → hole-at ys j ≡ false → getD ys′ j (pos 0) ≡ getD ys j (pos 0)

@@ -166,6 +166,7 @@ use Rattle.moves.proofs.slide.Reads as slide
 use Rattle.moves.proofs.copy_in.Reads as copy-in
 use Rattle.book.specs.Book.{Entry}
 use Rattle.book.specs.declared.Used.{Used}
+use Rattle.book.proofs.Standing.{one-step}
 use Rattle.book.proofs.Answers.{one-walked}
 use Rattle.book.proofs.step_at.Reads as book-step
 use Rattle.book.proofs.walk.Reads as book-walk
@@ -421,7 +422,7 @@ moved = (equation _ _, equation _ _)
 
 -- the part that is handed back is told by its bytes
 pub book : Once book-step.Post × Once book-walk.Post × Once used-refused.Post × Once book-check.Post × Once book-own.Post × Once book-find.Post × Leaves book-lookup.Post (λ x s. now x)
-book = (equation _ _, (λ κs a x y s t p q. one-walked x y (one-outcome p q)), equation _ _, equation _ _, judgement _, equation _ _, equation _ _)
+book = ((λ κs a x y s t p q. one-step (a .1 .0) x y (one-outcome p q)), (λ κs a x y s t p q. one-walked x y (one-outcome p q)), equation _ _, equation _ _, judgement _, equation _ _, equation _ _)
 
 -- the buffer is the first parameter
 pub put-in-a-book : Once book-put.Post × Lent book-put.Post (λ s. now (s .0))

@@ -323,6 +323,37 @@ fn card_units_round_the_exact_number() {
     assert!(card_units(f64::MAX) > 1 << 64);
 }
 
+const UNEVEN: ([u16; 4], [i16; 4]) = ([0, 20, 35, 69], [2200, 1400, 1800, 5300]);
+
+fn bits_of(pair: Pair) -> [u64; 2] {
+    pair.map(f64::to_bits)
+}
+
+/// At gaps that are no powers of two each rounding counts. `crates/fit/proofs/Uneven.antt` computes the same bits of
+/// the definitions,
+#[test]
+fn the_pairs_of_uneven_gaps_by_their_bits() {
+    let pairs = eliminate(&UNEVEN.0, &UNEVEN.1, FREE, FREE).unwrap();
+    let bits: Vec<[u64; 2]> = pairs.into_iter().map(bits_of).collect();
+    let wanted: [[u64; 2]; 4] = [
+        [0xc054_014d_c5dd_38c6, 0x4010_16ab_1ddf_de7d],
+        [0xbfe2_a4e0_476f_0480, 0x400e_91b0_a1e9_7443],
+        [0x404a_2fcd_d0a3_faf8, 0x4009_c9c6_8d17_c41e],
+        [0x4062_ec91_be50_a523, 0x4006_7804_d15b_976b],
+    ];
+    assert_eq!(bits, wanted);
+}
+
+/// and `crates/rows/proofs/Examples.antt` those of the second knot's equations.
+#[test]
+fn the_equations_of_a_knot_between_uneven_gaps_by_their_bits() {
+    let x = rows(&gap(&UNEVEN.0, &UNEVEN.1, 0), &gap(&UNEVEN.0, &UNEVEN.1, 1));
+    assert_eq!(x.a.map(bits_of), [[0x3f9b_9c2d_d084_4920, 0x3f97_e4b1_7e4b_17e3], [0x3f97_e4b1_7e4b_17e3, 0x3fd6_6666_6666_6666]]);
+    assert_eq!(x.l.map(bits_of), [[0x3f7c_ac08_3126_e97b, 0x3f94_7ae1_47ae_147c], [0xbf94_7ae1_47ae_147c, 0xbfa9_9999_9999_999a]]);
+    assert_eq!(x.r.map(bits_of), [[0x3f90_fda6_0a2a_059d, 0xbfa2_3456_789a_bcdf], [0x3fa2_3456_789a_bcdf, 0xbfb1_1111_1111_1111]]);
+    assert_eq!(bits_of(x.k), [0x3fd6_480f_2b9d_647d, 0x4011_7b42_5ed0_97b5]);
+}
+
 /// What mending a sheet into a list of so many changes answers: number, place, the changes as (place, new number) and the sheet then.
 /// The old numbers are the holes', nothing is written behind the changes or on a refusal, and putting them back gives the sheet as it came.
 fn mended(minutes: &[u16], ordinates: &[i16], room: usize) -> (u32, u32, Vec<(u32, i32)>, Vec<i16>) {
