@@ -25,20 +25,19 @@ pub fn head_due(list: &[u8], head: u16) -> answer::Judged
     due(list, 0, head, 6)
 }
 
-// The knots' records.
+// The knots' records. Of each only whether it is there is asked: a cursor's answer a record would be a third
+// of a card's test.
 fn knots_due(list: &[u8], n: usize) -> answer::Judged
     requires { ⌜ n < 2 ^ 16 ⌝ }
     ensures { λ r. ⌜ verdict-of r ≡ each (knot-due (now (list .entry))) 0 n ⌝ }
 {
     let mut i = 0;
     while i < n {
-        match due(list, 10 + 16 * i, 2, 12) {
-            answer::Judged::Refused(number, place) => {
-                return answer::Judged::Refused(number, place);
-            }
-            answer::Judged::Accepted => {
-                i += 1;
-            }
+        let at = 10 + 16 * i;
+        if record::is_at(list, at, 2, 12) {
+            i += 1;
+        } else {
+            return answer::Judged::Refused(14, at as u32);
         }
     }
     answer::Judged::Accepted

@@ -1,13 +1,14 @@
 // The jump of the third or fourth derivative at a knot between two gaps, and its allowance, both as numerators over the product of the gaps' powers. Document 01,
 // "The jump test". Each function asks that the numbers keep within limits for which a computed test shows that nothing passes 64 bits; none names a limit.
 ghost use mathlib.Core.Path.{_≡_};
-ghost use Prim.Native.Nat.{_+_, _*_, _<_, _^_};
+ghost use Prim.Native.Nat.{_+_, _*_, _≤_, _<_, _^_};
 ghost use lib.IntN.{pos, natAbs, _+ℤ_, _*ℤ_};
 ghost use Rattle.curve.specs.Curve.{degree};
 ghost use Rattle.curve.specs.Jump.{clear};
 ghost use Rattle.gaps.specs.Limits.{Gap};
 ghost use Rattle.jumps.specs.Sides.{order-of, side, opposed, jump-of, leeways, past};
-ghost use Rattle.jumps.specs.Limits.{Held, Beside, Allowed, Tried};
+ghost use Rattle.jumps.specs.Spans.{spans, no-spans, met-jump, met-leeways};
+ghost use Rattle.jumps.specs.Limits.{Held, Beside, Allowed, Meeting};
 
 // The derivatives whose jumps are tested at a knot.
 pub enum Order {
@@ -97,32 +98,100 @@ pub fn allowance(order: Order, square: i64, q: i64, h: i64) -> i64
     )
 }
 
-// Whether a jump, of either sign, is over what is allowed.
+// What a gap gives to the tests of one derivative at its two knots: the side that the left knot sees, minus
+// the one that the right knot sees, what clears both, and what they allow.
+pub struct Span {
+    pub ahead: i64,
+    pub behind: i64,
+    pub clears: i64,
+    pub leeway: i64,
+}
+
+// For both derivatives, with the gap's products worked out once.
+pub struct Spans {
+    pub third: Span,
+    pub fourth: Span,
+}
+
+impl Spans {
+    // From knot a to knot b; `square` is the first number of the third's allowance.
+    pub fn of(square: i64, h: i64, a: gaps::Knot, b: gaps::Knot) -> Spans
+        requires { ⌜ Held h a b ⌝ }
+        requires { ⌜ natAbs square ≤ 2 ^ 8 ⌝ }
+        ensures { λ r. ⌜ r ≡ spans square h a b ⌝ }
+    {
+        let y = a.ordinate;
+        let m = a.slope;
+        let c = a.curvature;
+        let y1 = b.ordinate;
+        let m1 = b.slope;
+        let c1 = b.curvature;
+        let rise = 4096 * (y1 - y);
+        let s = m * h;
+        let s1 = m1 * h;
+        let area = h * h;
+        let v = c * area;
+        let v1 = c1 * area;
+        let ahead = 20 * rise - (12 * s + 8 * s1) - (3 * v - v1);
+        let behind = 12 * s1 + 8 * s - 20 * rise - (3 * v1 - v);
+        let leeway = (square + 4 * h) * h;
+        let ahead4 = 16 * s + 14 * s1 + (3 * v - 2 * v1) - 30 * rise;
+        let behind4 = 16 * s1 + 14 * s - (3 * v1 - 2 * v) - 30 * rise;
+        let leeway4 = (20 + 4 * h) * h;
+        let cube = cleared(Order::Third, h);
+        let fourth = cleared(Order::Fourth, h);
+        Spans {
+            third: Span {
+                ahead,
+                behind,
+                clears: cube,
+                leeway,
+            },
+            fourth: Span {
+                ahead: ahead4,
+                behind: behind4,
+                clears: fourth,
+                leeway: leeway4,
+            },
+        }
+    }
+
+    // Of no gap, before the first knot.
+    pub fn none() -> Spans
+        ensures { λ r. ⌜ r ≡ no-spans ⌝ }
+    {
+        let span = Span {
+            ahead: 0,
+            behind: 0,
+            clears: 1,
+            leeway: 0,
+        };
+        Spans {
+            third: span,
+            fourth: span,
+        }
+    }
+}
+
+// Whether a jump, of either sign, is over what is allowed. The sign is not asked first: no processor foresees
+// it, and a sound card takes neither branch.
 fn over(jump: i64, allowed: i64) -> bool
     requires { ⌜ natAbs jump < 2 ^ 63 ⌝ }
     ensures { λ r. ⌜ r ≡ past jump allowed ⌝ }
 {
-    if jump < 0 {
-        return allowed < -jump;
+    if allowed < jump {
+        return true;
     }
-    allowed < jump
+    allowed < -jump
 }
 
-// Whether a derivative jumps by more than its allowance.
-pub fn jumps(
-    order: Order,
-    square: i64,
-    q: i64,
-    h: i64,
-    before: gaps::Knot,
-    here: gaps::Knot,
-    after: gaps::Knot,
-) -> bool
-    requires { ⌜ Tried square q h before here after ⌝ }
-    ensures { λ r. ⌜ r ≡ past (jump-of order q h before here after) (leeways order square q h) ⌝ }
+// Whether a derivative jumps by more than its allowance where two gaps meet.
+pub fn meet(left: Span, right: Span) -> bool
+    requires { ⌜ Meeting left right ⌝ }
+    ensures { λ r. ⌜ r ≡ past (met-jump left right) (met-leeways left right) ⌝ }
 {
     over(
-        jump(order, q, h, before, here, after),
-        allowance(order, square, q, h),
+        crossed(right.ahead, left.clears, left.behind, right.clears),
+        crossed(right.leeway, left.clears, left.leeway, right.clears),
     )
 }

@@ -5,7 +5,7 @@ use mathlib.Core.Path.{_≡_, refl, sym, _∙_, ap, ap₂, subst}
 use mathlib.Core.Logic.{_⊎_, ⊎-elim}
 use mathlib.Core.Bool.{Bool, true, false, _&&_, cond}
 use mathlib.Core.List.{List}
-use Prim.Native.Nat.{ℕ, zero, suc, _+_, _-_, _≤_, _<_, min}
+use Prim.Native.Nat.{ℕ, zero, suc, _+_, _-_, _≤_, _<_, _^_, min}
 use native.Mathlib.Nat.{eq-or-lt-of-le, le-of-lt}
 use native.Mathlib.Numerals.{add-one}
 use native.Mathlib.Omega.{arith}
@@ -30,15 +30,18 @@ use Rattle.knots.proofs.Accepted.{Stood, stood, Ranged, ranged, right-narrow, p
 use Rattle.gaps.specs.declared.Knot.{Knot}
 use Rattle.jumps.specs.declared.Order.{Order}
 use Rattle.jumps.specs.declared.Order.the-variants.{Third, Fourth}
+use Rattle.jumps.specs.declared.Span.{Span}
 use Rattle.jumps.specs.Sides.{order-of, allowing}
+use Rattle.jumps.specs.Spans.{span}
+use Rattle.jumps.specs.Limits.{Tried}
 use Rattle.gaps.specs.Limits.{In-gap, Keeps, limits}
 use Rattle.gaps.proofs.Kept.{keeps}
 use Rattle.parts.specs.Limits.{Tame}
 use Rattle.parts.proofs.OfKinds.{quintic-readable, lower, in-gap, tame}
+use Rattle.jumps.proofs.Gapwise.{compared-alike}
 use Rattle.jumps.proofs.JumpIs.{jumps-is}
 use Rattle.jumps.proofs.OfKinds.{quintic-testable, tried}
-use Rattle.lists.specs.declared.Joint.{Joint}
-use Rattle.lists.specs.Lists.{Checked, In-place, numbers-at, code-of, square-of, joint-at, Tested, jumps-of}
+use Rattle.lists.specs.Lists.{Checked, In-place, numbers-at, code-of, square-of, jumps-of}
 
 module _ {xs : List ℕ} {ys ms cs : List ℤ} (k : Checked xs ys ms cs) where
   stands-there : Stood quintic xs ys
@@ -68,8 +71,8 @@ module _ {xs : List ℕ} {ys ms cs : List ℤ} (k : Checked xs ys ms cs) where
     after-keeps : Keeps (limits quintic (right-gap xs i)) (numbers after)
     after-keeps = keeps-by (right-gap xs i) after (omega arith) (curvature-after (lower quintic quintic-readable) stands-there in-range-there i l)
 
-    -- what `jumps::jumps` asks
-    pub settled-knot : Tested (joint-at xs ys ms cs i)
+    -- the knot between its gaps keeps within what the jump test asks
+    pub settled-knot : (square : ℕ) → square ≤ 2 ^ 8 → Tried (pos square) (pos (left-gap xs i)) (pos (right-gap xs i)) (numbers (back i)) (numbers i) (numbers after)
     unfolding back
     settled-knot square s =
         tried quintic quintic-testable square (left-gap xs i) (right-gap xs i) (numbers (back i)) (numbers i) (numbers after)
@@ -148,13 +151,17 @@ module _ (kind : Kind) (o : Order) (left right : ℕ) (xs : List ℕ) (ys ms cs 
       go Third = refl
       go Fourth = refl
 
-  pub asked-jumps : (code : ℕ) (j : Joint) → code ≡ code-of left right (length xs) i → j ≡ joint-at xs ys ms cs i → Checked xs ys ms cs → i < length xs
-      → (kind-of kind .asks (end code) (order-of o) && jumps-of kind o j) ≡ jumps (kind-of kind) (joint card i) (order-of o)
+  pub asked-jumps : {code : ℕ} {before after : Span} → code ≡ code-of left right (length xs) i
+      → before ≡ span o (pos (square-of kind o)) (pos (left-gap xs i)) (numbers-at ys ms cs (back i)) (numbers-at ys ms cs i)
+      → after ≡ span o (pos (square-of kind o)) (pos (right-gap xs i)) (numbers-at ys ms cs i) (numbers-at ys ms cs (min (i + 1) (length xs - 1)))
+      → Checked xs ys ms cs → i < length xs → jumps-of kind o code before after ≡ jumps (kind-of kind) (joint card i) (order-of o)
   unfolding jumps joint knot knots gap on
-  asked-jumps code j e f k l =
-      ap₂ (λ code j. kind-of kind .asks (end code) (order-of o) && jumps-of kind o j) e f
+  asked-jumps {before} {after} e f g k l =
+      ap (λ code. jumps-of kind o code before after) e
+      ∙ ap₂ (λ b a. jumps-of kind o (code-of left right (length xs) i) b a) f g
       ∙ ap₂ _&&_ (sym asked-as)
-      (jumps-is o (knot card (back i)) (knot card i) (knot card (on card i)) (level-right k i l) (level-left k i l) (kind-of kind) (square-of kind o) allows)
+      (compared-alike o (pos (square-of kind o)) (pos (left-gap xs i)) (pos (right-gap xs i)) (numbers-at ys ms cs (back i)) (numbers-at ys ms cs i) (numbers-at ys ms cs (min (i + 1) (length xs - 1)))
+      ∙ jumps-is o (knot card (back i)) (knot card i) (knot card (on card i)) (level-right k i l) (level-left k i l) (kind-of kind) (square-of kind o) allows)
 
 -- ---- the gap of a minute that 11 accepts
 

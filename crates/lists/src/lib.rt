@@ -1,11 +1,11 @@
 // What stands on lent lists and needs the curve's arithmetic: 10 knot by knot, the orders of 9 and 10, and the reading at a minute.
 // Document 01, "Numbers of refusal" and "The exact curve". The lists are minutes, ordinates, slopes and curvatures.
 ghost use mathlib.Core.Path.{_≡_};
-ghost use mathlib.Core.Bool.{_&&_};
+ghost use mathlib.Core.Bool.{_||_};
 ghost use Prim.Native.Nat.{ℕ, _+_, _<_, _≤_, _^_};
 ghost use lib.ListN.{length};
 ghost use lib.IntN.{pos};
-ghost use Rattle.answer.specs.Answer.{accepted, refused, given, each};
+ghost use Rattle.answer.specs.Answer.{accepted, refused, given, refuse, each};
 ghost use Rattle.answer.specs.Judge.{verdict-of, numbered};
 ghost use Rattle.curve.specs.Kind.{quintic, end};
 ghost use Rattle.curve.specs.Steps.{stands, smooth};
@@ -13,7 +13,9 @@ ghost use Rattle.curve.specs.Orders.{numbers-sound, sound};
 ghost use Rattle.knots.specs.Kinds.{kind-of};
 ghost use Rattle.knots.specs.Lent.{lent};
 ghost use Rattle.jumps.specs.Sides.{order-of};
-ghost use Rattle.lists.specs.Lists.{Long, Checked, In-place, numbers-at, code-of, square-of, joint-at, Tested, jumps-of, spell-of, answered, answer-at};
+ghost use Rattle.jumps.specs.declared.Order.the-variants.{Third, Fourth};
+ghost use Rattle.jumps.specs.Limits.{Meeting};
+ghost use Rattle.lists.specs.Lists.{Long, Checked, In-place, numbers-at, code-of, square-of, spans-at, jumps-of, curve-of, spell-of, answered, answer-at};
 
 // ---- 10
 
@@ -65,92 +67,64 @@ fn asks(kind: knots::Kind, order: jumps::Order, code: u16) -> bool
     }
 }
 
-// The first number of a side's allowance.
-fn square(kind: knots::Kind, order: jumps::Order) -> i64
-    ensures { λ r. ⌜ (r ≡ pos (square-of kind order)) × (square-of kind order < 2 ^ 8) ⌝ }
-{
-    let squares = kind.squares;
-    match order {
-        jumps::Order::Third => squares as i64,
-        jumps::Order::Fourth => 20,
-    }
-}
-
-// What the jump test reads at a knot: the gaps on its left and right, its numbers and its neighbours'.
-struct Joint {
-    left: i64,
-    right: i64,
-    before: gaps::Knot,
-    here: gaps::Knot,
-    after: gaps::Knot,
-}
-
-// Read once for both derivatives.
-fn joint_at(xs: &[u16], ys: &[i16], ms: &[i32], cs: &[i32], i: usize) -> Joint
-    requires { ⌜ Long (now xs) (now ys) (now ms) (now cs) ⌝ }
-    requires { ⌜ i < length (now xs) ⌝ }
-    ensures { λ r. ⌜ r ≡ joint-at (now (xs .entry)) (now (ys .entry)) (now (ms .entry)) (now (cs .entry)) i ⌝ }
-{
-    let before = knot_at(ys, ms, cs, minutes::back(i));
-    let here = knot_at(ys, ms, cs, i);
-    let after = knot_at(ys, ms, cs, minutes::on(xs.len(), i));
-    let left = minutes::left_gap(xs, i) as i64;
-    let right = minutes::right_gap(xs, i) as i64;
-    Joint {
-        left,
-        right,
-        before,
-        here,
-        after,
-    }
-}
-
-// Whether a derivative jumps at a knot where its code asks for it.
-fn jumps_at(kind: knots::Kind, order: jumps::Order, code: u16, joint: Joint) -> bool
-    requires { ⌜ Tested joint ⌝ }
-    ensures { λ r. ⌜ r ≡ (kind-of kind .asks (end code) (order-of order) && jumps-of kind order joint) ⌝ }
-{
-    if asks(kind, order, code) {
-        return jumps::jumps(
-            order,
-            square(kind, order),
-            joint.left,
-            joint.right,
-            joint.before,
-            joint.here,
-            joint.after,
-        );
-    }
-    false
-}
-
-// The number at a knot; 0 where no derivative jumps.
-fn rough_at(
+// What the gap on the right of a knot gives to the tests at both of its knots; at the last knot there is
+// none.
+fn spans_at(
     kind: knots::Kind,
-    left: u16,
-    right: u16,
     xs: &[u16],
     ys: &[i16],
     ms: &[i32],
     cs: &[i32],
     i: usize,
-) -> u32
+) -> jumps::Spans
     requires { ⌜ Checked (now xs) (now ys) (now ms) (now cs) ⌝ }
     requires { ⌜ i < length (now xs) ⌝ }
-    ensures { λ r. ⌜ smooth (kind-of kind) (lent (now (xs .entry)) (now (ys .entry)) (now (ms .entry)) (now (cs .entry)) left right) i ≡ numbered r i ⌝ }
+    ensures { λ r. ⌜ (r ≡ spans-at kind (now (xs .entry)) (now (ys .entry)) (now (ms .entry)) (now (cs .entry)) i) × (square-of kind Third < 2 ^ 8) ⌝ }
 {
-    let code = code_at(left, right, xs.len(), i);
-    let joint = joint_at(xs, ys, ms, cs, i);
-    if jumps_at(kind, jumps::Order::Third, code, joint) {
+    let here = knot_at(ys, ms, cs, i);
+    let after = knot_at(ys, ms, cs, minutes::on(xs.len(), i));
+    let h = minutes::right_gap(xs, i) as i64;
+    let squares = kind.squares;
+    jumps::Spans::of(squares as i64, h, here, after)
+}
+
+// Whether a derivative jumps at a knot between two gaps where its code asks for it.
+fn jumps_at(
+    kind: knots::Kind,
+    order: jumps::Order,
+    code: u16,
+    before: jumps::Span,
+    after: jumps::Span,
+) -> bool
+    requires { ⌜ Meeting before after ⌝ }
+    ensures { λ r. ⌜ r ≡ jumps-of kind order code before after ⌝ }
+{
+    if asks(kind, order, code) {
+        return jumps::meet(before, after);
+    }
+    false
+}
+
+// The number at a knot between two gaps; 0 where no derivative jumps.
+fn rough_at(kind: knots::Kind, code: u16, before: jumps::Spans, after: jumps::Spans) -> u32
+    requires { ⌜ Meeting (before .third) (after .third) ⌝ }
+    requires { ⌜ Meeting (before .fourth) (after .fourth) ⌝ }
+    ensures { λ r. ⌜ ((i : ℕ) → refuse 10 i (jumps-of kind Third code (before .third) (after .third) || jumps-of kind Fourth code (before .fourth) (after .fourth)) ≡ numbered r i) ⌝ }
+{
+    let third = before.third;
+    let third1 = after.third;
+    if jumps_at(kind, jumps::Order::Third, code, third, third1) {
         return 10;
     }
-    if jumps_at(kind, jumps::Order::Fourth, code, joint) {
+    let fourth = before.fourth;
+    let fourth1 = after.fourth;
+    if jumps_at(kind, jumps::Order::Fourth, code, fourth, fourth1) {
         return 10;
     }
     0
 }
 
-// Knot by knot.
+// Knot by knot, each gap worked out once.
 fn smooth(
     kind: knots::Kind,
     left: u16,
@@ -163,12 +137,16 @@ fn smooth(
     requires { ⌜ Checked (now xs) (now ys) (now ms) (now cs) ⌝ }
     ensures { λ r. ⌜ verdict-of r ≡ each (smooth (kind-of kind) (lent (now (xs .entry)) (now (ys .entry)) (now (ms .entry)) (now (cs .entry)) left right)) 0 (length (now (xs .entry))) ⌝ }
 {
+    let mut before = jumps::Spans::none();
     let mut i = 0;
     while i < xs.len() {
-        let number = rough_at(kind, left, right, xs, ys, ms, cs, i);
+        let code = code_at(left, right, xs.len(), i);
+        let after = spans_at(kind, xs, ys, ms, cs, i);
+        let number = rough_at(kind, code, before, after);
         if 0 < number {
             return answer::Judged::Refused(number, i as u32);
         }
+        before = after;
         i += 1;
     }
     answer::Judged::Accepted
@@ -243,6 +221,19 @@ impl CardReading {
             looks: 0,
         }
     }
+}
+
+// The curve of the gap from place i, for all of its minutes.
+pub fn curve_at(xs: &[u16], ys: &[i16], ms: &[i32], cs: &[i32], i: usize) -> gap_curve::GapCurve
+    requires { ⌜ Checked (now xs) (now ys) (now ms) (now cs) ⌝ }
+    requires { ⌜ i + 1 < length (now xs) ⌝ }
+    ensures { λ r. ⌜ r ≡ curve-of (now (xs .entry)) (now (ys .entry)) (now (ms .entry)) (now (cs .entry)) i ⌝ }
+{
+    let from = xs[i];
+    let to = xs[i + 1];
+    let a = knot_at(ys, ms, cs, i);
+    let b = knot_at(ys, ms, cs, i + 1);
+    gap_curve::GapCurve::of((to - from) as i64, a, b)
 }
 
 // At a minute of the one gap that the looks have left.

@@ -22,6 +22,7 @@ use Rattle.bytes.proofs.read_i32.Reads as read-i32
 use Rattle.bytes.proofs.write_u16.Reads as write-u16
 use Rattle.bytes.proofs.write_i16.Reads as write-i16
 use Rattle.bytes.proofs.write_i32.Reads as write-i32
+use Rattle.record.proofs.is_at.Reads as is-at
 use Rattle.record.proofs.Cursor.new.Reads as cursor-new
 use Rattle.record.proofs.Cursor.read.Reads as cursor-read
 use Rattle.knots.proofs.Kind.quintic.Reads as kind-quintic
@@ -46,12 +47,17 @@ use Rattle.parts.proofs.Parts.of.Reads as parts-of
 use Rattle.parts.proofs.numerator.Reads as numerator
 use Rattle.parts.proofs.denominator.Reads as denominator
 use Rattle.reading.proofs.Reading.between.Reads as reading-between
+use Rattle.gap_curve.proofs.GapCurve.of.Reads as curve-of
+use Rattle.gap_curve.proofs.GapCurve.at.Reads as curve-reads
 use Rattle.jumps.proofs.jump.Reads as jump
 use Rattle.jumps.proofs.allowance.Reads as allowance
-use Rattle.jumps.proofs.jumps.Reads as jumps
+use Rattle.jumps.proofs.Spans.of.Reads as spans-of
+use Rattle.jumps.proofs.Spans.none.Reads as spans-none
+use Rattle.jumps.proofs.meet.Reads as meet
 use Rattle.lists.proofs.numbers_sound.Reads as numbers-sound
 use Rattle.lists.proofs.sound.Reads as sound
 use Rattle.lists.proofs.CardReading.refused.Reads as reading-refused
+use Rattle.lists.proofs.curve_at.Reads as curve-at
 use Rattle.lists.proofs.read_at.Reads as read-at
 use Rattle.card_bytes.proofs.head_due.Reads as head-due
 use Rattle.card_bytes.proofs.records_due.Reads as records-due
@@ -361,8 +367,8 @@ bytes-read = (equation _ _, equation _ _, equation _ _)
 pub bytes-written : Lent write-u16.Post (λ s. now (s .0)) × Lent write-i16.Post (λ s. now (s .0)) × Lent write-i32.Post (λ s. now (s .0))
 bytes-written = (equation _ _, equation _ _, equation _ _)
 
-pub records : Once cursor-new.Post × Once cursor-read.Post
-records = ((λ κs a x y s t p q. ap (λ n. record { at = n }) (one-outcome p q)), λ κs a x y s t p q. one-found x y (one-outcome p q))
+pub records : Once is-at.Post × Once cursor-new.Post × Once cursor-read.Post
+records = (equation _ _, (λ κs a x y s t p q. ap (λ n. record { at = n }) (one-outcome p q)), λ κs a x y s t p q. one-found x y (one-outcome p q))
 
 -- ---- checks and readings
 
@@ -375,11 +381,14 @@ knots = (equation _ _, judgement _, judgement _, judgement _, judgement _, judge
 pub one-gap : Once mirrored.Post × Once sheet-of.Post × Once weights-of.Post × Once parts-of.Post × Once numerator.Post × Once denominator.Post × Once reading-between.Post
 one-gap = (equation _ _, equation _ _, equation _ _, equation _ _, equation _ _, equation _ _, equation _ _)
 
-pub two-gaps : Once jump.Post × Once allowance.Post × Once jumps.Post
-two-gaps = (equation _ _, equation _ _, equation _ _)
+pub gap-curve : Once curve-of.Post × Once curve-reads.Post
+gap-curve = (equation _ _, equation _ _)
 
-pub lists : Once numbers-sound.Post × Once sound.Post × Once reading-refused.Post × Once read-at.Post
-lists = (judgement _, judgement _, equation _ _, λ κs a x y s t p q. one-outcome (p 0 0) (q 0 0))
+pub two-gaps : Once jump.Post × Once allowance.Post × Once spans-of.Post × Once spans-none.Post × Once meet.Post
+two-gaps = (equation _ _, equation _ _, equation _ _, equation _ _, equation _ _)
+
+pub lists : Once numbers-sound.Post × Once sound.Post × Once reading-refused.Post × Once curve-at.Post × Once read-at.Post
+lists = (judgement _, judgement _, equation _ _, equation _ _, λ κs a x y s t p q. one-outcome (p 0 0) (q 0 0))
 
 -- ---- cards
 

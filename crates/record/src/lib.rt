@@ -3,7 +3,7 @@ ghost use mathlib.Core.Path.{_≡_};
 ghost use Rattle.record.specs.Record.{isAt, found-of, recordAt};
 
 // Whether a whole record of the kind and the length stands at an offset, which may be any.
-fn is_at(list: &[u8], at: usize, kind: u16, length: u16) -> bool
+pub fn is_at(list: &[u8], at: usize, kind: u16, length: u16) -> bool
     ensures { λ r. ⌜ r ≡ isAt (now (list .entry)) at kind length ⌝ }
 {
     let size = 4 + (length as usize);

@@ -14,7 +14,7 @@ ghost use Rattle.curve.specs.Orders.{verdict};
 ghost use Rattle.knots.specs.Lent.{lent};
 ghost use Rattle.lists.specs.Lists.{Checked, answer-at};
 ghost use Rattle.decode.specs.Decoded.{decoded, Full};
-ghost use Rattle.table.specs.Table.{table-order, count};
+ghost use Rattle.table.specs.Table.{table-order, count, Stops};
 ghost use Rattle.table.specs.Promise.{columns, Given, Tables};
 
 // Zeros behind a refusal.
@@ -71,7 +71,25 @@ fn count(xs: &[u16], from: u16, places: usize) -> usize
     places
 }
 
-// Off the lists of a sound card, over the fronts of three lists that have room.
+// How many readings there are before those of the next gap, from the gap at place j on.
+fn stop(xs: &[u16], from: u16, count: usize, j: usize) -> usize
+    requires { ⌜ j + 1 < length (now xs) ⌝ }
+    requires { ⌜ (j + 2 < length (now xs) → from ≤ getD (now xs) (j + 1) 0) ⌝ }
+    ensures { λ r. ⌜ Stops (now (xs .entry)) from count j r ⌝ }
+{
+    if j + 2 == xs.len() {
+        return count;
+    }
+    let next = xs[j + 1];
+    let before = (next - from) as usize;
+    if before < count {
+        return before;
+    }
+    count
+}
+
+// Off the lists of a sound card, over the fronts of three lists that have room: gap after gap, each gap's
+// curve laid once.
 fn fill(
     xs: &[u16],
     ys: &[i16],
@@ -84,23 +102,31 @@ fn fill(
     curvatures: &mut [i32],
 )
     requires { ⌜ Checked (now xs) (now ys) (now ms) (now cs) ⌝ }
-    requires { ⌜ (2 ≤ length (now xs)) × (from + count ≤ 2 ^ 16) ⌝ }
+    requires { ⌜ (2 ≤ length (now xs)) × (getD (now xs) 0 0 ≤ from) × (from + count ≤ getD (now xs) (length (now xs) - 1) 0 + 1) ⌝ }
     requires { ⌜ (count ≤ length (now values)) × (count ≤ length (now slopes)) × (count ≤ length (now curvatures)) ⌝ }
     ensures { λ _. ⌜
         Given (λ i. answer-at accepted (lent (now (xs .entry)) (now (ys .entry)) (now (ms .entry)) (now (cs .entry)) 0 0) (from + i)) count
         (columns (values .entry) (slopes .entry) (curvatures .entry))
         (columns (values .exit) (slopes .exit) (curvatures .exit)) ⌝ }
 {
+    let gap = minutes::find(xs, from);
+    let mut j = gap.first;
     let mut i: usize = 0;
     while i < count {
-        let r = lists::read_at(xs, ys, ms, cs, from + i as u16);
-        let value = r.value;
-        let slope = r.slope;
-        let curvature = r.curvature;
-        values[i] = value;
-        slopes[i] = slope;
-        curvatures[i] = curvature;
-        i += 1;
+        let curve = lists::curve_at(xs, ys, ms, cs, j);
+        let start = xs[j];
+        let stop = stop(xs, from, count, j);
+        while i < stop {
+            let r = curve.at((from + i as u16 - start) as i64);
+            let value = r.value;
+            let slope = r.slope;
+            let curvature = r.curvature;
+            values[i] = value;
+            slopes[i] = slope;
+            curvatures[i] = curvature;
+            i += 1;
+        }
+        j += 1;
     }
 }
 

@@ -1,0 +1,92 @@
+//! What is timed: cards of 64 knots on gaps of an hour and on gaps of 20 to 60 minutes, logs, sheets with
+//! holes, and books of fourteen rooms.
+
+use independent::curves::{self, Numbers, Sheet};
+use independent::random::Random;
+use independent::reference;
+
+pub const KNOTS: usize = 64;
+pub const ROOMS: u16 = 14;
+/// Cards, sheets and books of each kind.
+pub const INPUTS: usize = 16;
+/// Logs: as many as no branch predictor has learnt, since a log is averaged once.
+pub const LOGS: usize = 4096;
+
+/// Cards on gaps of one kind, their bytes, and a minute of each.
+pub struct Cards {
+    pub numbers: Vec<Numbers>,
+    pub bytes: Vec<Vec<u8>>,
+    pub minutes: Vec<u16>,
+}
+
+pub struct Inputs {
+    pub hours: Cards,
+    pub mixed: Cards,
+    pub logs: Vec<Vec<u8>>,
+    pub sheets: Vec<Sheet>,
+    pub books: Vec<Vec<u8>>,
+    pub short_card: Vec<u8>,
+}
+
+/// A card of free ends on such gaps, whose knots the fit without ends accepts too.
+fn card(random: &mut Random, gap: impl Fn(&mut Random) -> u16) -> Numbers {
+    loop {
+        let mut minutes = vec![random.within(0, 500) as u16];
+        while minutes.len() < KNOTS {
+            minutes.push(minutes[minutes.len() - 1] + gap(random));
+        }
+        let card = curves::fitted_at(random, &minutes, 0, 0);
+        if reference::fit(&card.sheet.minutes, &card.sheet.ordinates, &mut [0; KNOTS], &mut [0; KNOTS]).is_ok() {
+            return card;
+        }
+    }
+}
+
+fn cards(random: &mut Random, gap: impl Fn(&mut Random) -> u16) -> Cards {
+    let numbers: Vec<Numbers> = (0..INPUTS).map(|_| card(random, &gap)).collect();
+    let bytes = numbers.iter().map(Numbers::bytes).collect();
+    let minutes = numbers.iter().map(|card| first_and_count(card).0 + random.below(first_and_count(card).1) as u16).collect();
+    Cards { numbers, bytes, minutes }
+}
+
+/// The first minute of a card, and how many it has.
+pub fn first_and_count(card: &Numbers) -> (u16, usize) {
+    let (first, last) = (card.sheet.minutes[0], card.sheet.minutes[KNOTS - 1]);
+    (first, usize::from(last - first) + 1)
+}
+
+/// A sheet with some fifth of its knots holes that the reference mends.
+fn sheet_with_holes(random: &mut Random) -> Sheet {
+    loop {
+        let mut sheet = curves::fitted(random, KNOTS, 0, 0).sheet;
+        for ordinate in &mut sheet.ordinates[1..KNOTS - 1] {
+            if random.once_in(5) {
+                *ordinate = reference::HOLE;
+            }
+        }
+        let (mut ordinates, mut slopes, mut curvatures) = (sheet.ordinates.clone(), [0; KNOTS], [0; KNOTS]);
+        let mut changes = [reference::Change { place: 0, old: 0, new: 0 }; KNOTS];
+        if reference::mend(&sheet.minutes, &mut ordinates, &mut slopes, &mut curvatures, &mut changes).is_ok_and(|count| count > 0) {
+            return sheet;
+        }
+    }
+}
+
+/// A buffer as long as a book may be, with the rooms 1 to 14 and their cards.
+fn hall(cards: &[Vec<u8>], first: usize) -> Vec<u8> {
+    let card = |room: u16| cards[(first + usize::from(room)) % cards.len()].clone();
+    let mut book = reference::book_bytes(&(1..=ROOMS).map(|room| (room, card(room))).collect());
+    book.resize(reference::LONGEST_BOOK, 0);
+    book
+}
+
+pub fn inputs(random: &mut Random) -> Inputs {
+    let hours = cards(random, |_| 60);
+    let mixed = cards(random, |random| random.within(20, 60) as u16);
+    let byte = |random: &mut Random| if random.once_in(10) { 255 } else { random.within(0, 200) as u8 };
+    let logs = (0..LOGS).map(|_| (0..60).map(|_| byte(random)).collect()).collect();
+    let sheets = (0..INPUTS).map(|_| sheet_with_holes(random)).collect();
+    let books = (0..INPUTS).map(|first| hall(&mixed.bytes, first)).collect();
+    let short_card = curves::fitted(random, 3, 0, 0).bytes();
+    Inputs { hours, mixed, logs, sheets, books, short_card }
+}

@@ -1,0 +1,4 @@
+pub mod Coded
+pub mod Near
+pub mod Shared
+pub mod LaidReads
