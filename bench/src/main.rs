@@ -17,7 +17,7 @@ use plain::Plain;
 use std::hint::black_box;
 use std::time::Instant;
 
-const ROUNDS: usize = 301;
+const ROUNDS: usize = 1001;
 const ROUND_NANOSECONDS: f64 = 2e5;
 
 /// One who is asked over and over, each time of the input with this number.
