@@ -113,7 +113,7 @@ pub struct Used {
 }
 
 /// An end as the boundary takes it: a code number and the two numbers beside it.
-#[derive(Clone, Copy, Debug)]
+#[derive(Clone, Copy, Debug, Default)]
 pub struct End {
     pub code: u16,
     pub slope: f64,
