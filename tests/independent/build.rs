@@ -1,6 +1,6 @@
-//! Links libkaihveto.a from the folder that KAIHVETO_LIB names, or from target/native, where tests/run puts the library
-//! as C compiled for this processor, and then turns the cfg `archive` on. Where there is none yet nothing is linked, and
-//! calls can only go to a program that is (src/far.rs).
+//! Links libkaihveto.a from the folder that KAIHVETO_LIB names, or from target/native, where tests/run puts
+//! the library as C compiled for this processor, and then turns the cfg `archive` on. Where there is none yet
+//! nothing is linked, and calls can only go to a program that is (src/far.rs).
 
 use std::env;
 use std::path::PathBuf;

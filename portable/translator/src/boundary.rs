@@ -29,7 +29,8 @@ pub fn prototypes(header: &str) -> Vec<Prototype> {
     lines.split(';').filter_map(one).collect()
 }
 
-/// A function under its name in the header: a list comes as a pointer and a length, and the answer goes as the header's struct, whose size is asserted.
+/// A function under its name in the header: a list comes as a pointer and a length, and the answer goes as
+/// the header's struct, whose size is asserted.
 pub fn exported(types: &Types, symbol: &str, f: &Function, p: &Prototype) -> String {
     let named: Vec<&str> = match p.params.as_str() {
         "void" => vec![],
@@ -67,7 +68,8 @@ pub fn exported(types: &Types, symbol: &str, f: &Function, p: &Prototype) -> Str
     }
 }
 
-/// A function of C. Its integers have the signs that MIR names, the result's first; a list goes as its pointer and its length.
+/// A function of C. Its integers have the signs that MIR names, the result's first; a list goes as its
+/// pointer and its length.
 pub fn foreign(f: &Function, signature: &str, names: &[String], symbol: &str, signs: &[bool], helpers: &mut Helpers) -> String {
     let mut signs = signs.iter().copied();
     let mut sign = || signs.next().unwrap_or_else(|| fail("a sign for each integer of a foreign function", symbol));

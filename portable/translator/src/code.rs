@@ -1,10 +1,12 @@
-//! A program of MIR as code: functions, statements and values, read from the term form by form (the logic's Mir/Syntax.antt). A form that is not here ends the translator.
+//! A program of MIR as code: functions, statements and values, read from the term form by form (the logic's
+//! Mir/Syntax.antt). A form that is not here ends the translator.
 use crate::operations::{Op1, Op2};
 use crate::term::{fail, Term};
 use crate::types::{shape, ty, Shape, Ty};
 use std::collections::BTreeMap;
 
-/// A place, a constant, or an operation on such. In MIR an operand is a place or a constant; flow.rs puts operations in the place of locals that are read once.
+/// A place, a constant, or an operation on such. In MIR an operand is a place or a constant; flow.rs puts
+/// operations in the place of locals that are read once.
 #[derive(Clone, PartialEq, Debug)]
 pub enum Expr {
     Local(usize),
@@ -37,7 +39,8 @@ pub enum Stmt {
     Repeat(Expr, Expr, u64),
     Call(Expr, String, Vec<Expr>),
     If(Expr, Vec<Stmt>, Vec<Stmt>),
-    /// The first arm with the number among its keys runs, else the last of them, which has none. Where MIR has no default, the proof leaves no other number for the last arm.
+    /// The first arm with the number among its keys runs, else the last of them, which has none. Where MIR
+    /// has no default, the proof leaves no other number for the last arm.
     Switch(Expr, Vec<(Vec<u64>, Vec<Stmt>)>),
     Block(Vec<Stmt>),
     Loop(Vec<Stmt>),
@@ -47,7 +50,8 @@ pub enum Stmt {
 
 pub enum Body {
     Code(Vec<Stmt>),
-    /// A function of C: its symbol, and the sign of its result, if that is an integer, and of each integer behind it.
+    /// A function of C: its symbol, and the sign of its result, if that is an integer, and of each integer
+    /// behind it.
     Foreign(String, Vec<bool>),
 }
 
@@ -60,7 +64,8 @@ pub struct Function {
 }
 
 impl Function {
-    /// How many parameters have a copy in memory, which is what the code then uses: these copies are the first locals behind the parameters, and the first that is written.
+    /// How many parameters have a copy in memory, which is what the code then uses: these copies are the
+    /// first locals behind the parameters, and the first that is written.
     pub fn copies(&self) -> usize {
         let Body::Code(code) = &self.body else { return 0 };
         let is_copy = |(k, s): &(usize, &Stmt)| {

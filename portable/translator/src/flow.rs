@@ -1,8 +1,11 @@
-//! What is done to a function's code before it is written, so that C has the source's own variables and no copies: nothing here changes what the code computes.
+//! What is done to a function's code before it is written, so that C has the source's own variables and no
+//! copies: nothing here changes what the code computes.
 //!
 //! - A local that begins as a copy of a parameter that nothing else reads is that parameter.
-//! - A temporary that is read once, with nothing between that could change what it is made of, is put where it is read. An operation that rounds is not.
-//! - A struct or an array that is a copy of a part of another, both of them only read from then on, is that part.
+//! - A temporary that is read once, with nothing between that could change what it is made of, is put where
+//!   it is read. An operation that rounds is not.
+//! - A struct or an array that is a copy of a part of another, both of them only read from then on, is that
+//!   part.
 //! - A value that a branch makes for the code behind it to return is returned there.
 //! - A multiple of an element's size, counted from an array or a list, is an element of it.
 //! - An array of constants that is only read is a table of the file.
@@ -20,7 +23,8 @@ pub struct Scope<'a> {
     named: usize,
 }
 
-/// A function's code in its last form, with the tables that it reads: the local that each was, its elements and its type.
+/// A function's code in its last form, with the tables that it reads: the local that each was, its elements
+/// and its type.
 pub struct Ready<'a> {
     pub scope: Scope<'a>,
     pub code: Vec<Stmt>,
@@ -70,7 +74,8 @@ fn inner_mut(s: &mut Stmt) -> Vec<&mut Vec<Stmt>> {
     }
 }
 
-/// What a statement itself reads and writes to, without what is within it: values first, the place that it writes to last.
+/// What a statement itself reads and writes to, without what is within it: values first, the place that it
+/// writes to last.
 pub fn own(s: &Stmt) -> (Vec<&Expr>, Option<&Expr>) {
     match s {
         Stmt::Assign(p, x) | Stmt::Repeat(p, x, _) => (vec![x], Some(p)),
@@ -104,7 +109,8 @@ fn mentions(e: &Expr, x: usize) -> usize {
     usize::from(*e == Expr::Local(x)) + e.parts().into_iter().map(|part| mentions(part, x)).sum::<usize>()
 }
 
-/// How often a place that is written to reads a local: all of its mentions, but for the local that it is a part of.
+/// How often a place that is written to reads a local: all of its mentions, but for the local that it is a
+/// part of.
 fn read_in_target(p: &Expr, x: usize) -> usize {
     mentions(p, x) - usize::from(p.base() == Some(x))
 }
@@ -129,7 +135,8 @@ fn writes(s: &Stmt, x: usize) -> bool {
     own(s).1.is_some_and(|p| p.base() == Some(x)) || inner(s).into_iter().flatten().any(|s| writes(s, x))
 }
 
-/// Whether each read of a local is of what the same list of statements has written to it before: then no list finds it written, and none leaves it to be read.
+/// Whether each read of a local is of what the same list of statements has written to it before: then no list
+/// finds it written, and none leaves it to be read.
 fn stays_in_lists(code: &[Stmt], x: usize) -> bool {
     let mut written = false;
     for s in code {
@@ -171,7 +178,8 @@ impl Scope<'_> {
         }
     }
 
-    /// A struct, an array or a slice behind a pointer that does not say what it points to, or in a list: its owner, a caller in C, may have it as another type, so that it goes by memcpy.
+    /// A struct, an array or a slice behind a pointer that does not say what it points to, or in a list: its
+    /// owner, a caller in C, may have it as another type, so that it goes by memcpy.
     pub fn lent(&self, e: &Expr) -> bool {
         let whole = |t: &Ty| matches!(t, Ty::Named(_) | Ty::Array(..) | Ty::Slice(..));
         match e {
@@ -271,7 +279,8 @@ impl Scope<'_> {
         }
     }
 
-    /// Whether a statement leaves everything as it is that a value is made of. A value local has no address, so that only a statement that names it changes it.
+    /// Whether a statement leaves everything as it is that a value is made of. A value local has no address,
+    /// so that only a statement that names it changes it.
     fn harmless(&self, s: &Stmt, value: &Expr) -> bool {
         let memory = value.any(&mut |e| matches!(e, Expr::Deref(..) | Expr::Listed(..)) || matches!(e, Expr::Local(z) if self.slots[*z]));
         match s {
@@ -295,7 +304,8 @@ impl Scope<'_> {
 
     // ---- copies and returns
 
-    /// Both the copy and what it is a copy of are written once, not in a loop, and nothing else has their address but to read: so they stay alike.
+    /// Both the copy and what it is a copy of are written once, not in a loop, and nothing else has their
+    /// address but to read: so they stay alike.
     fn share_copies(&self, code: &mut Vec<Stmt>) {
         for x in self.params + 1..self.locals.len() {
             if !matches!(self.locals[x], Ty::Named(_) | Ty::Array(..)) {
@@ -317,7 +327,8 @@ impl Scope<'_> {
         }
     }
 
-    /// A list that ends in branches, each of which ends in giving a value to a local, and then returns that local.
+    /// A list that ends in branches, each of which ends in giving a value to a local, and then returns that
+    /// local.
     fn return_at_once(&self, code: &mut Vec<Stmt>) {
         let given = match &code[..] {
             [.., Stmt::If(..) | Stmt::Switch(..), Stmt::Assign(Expr::Local(0), Expr::Local(v)), Stmt::Return] if *v > self.params => {
@@ -384,7 +395,8 @@ impl Scope<'_> {
         tables
     }
 
-    /// Whether nothing that has an array's address can write through it: an address is taken only as a reference that reads.
+    /// Whether nothing that has an array's address can write through it: an address is taken only as a
+    /// reference that reads.
     fn only_read(&self, code: &[Stmt], x: usize) -> bool {
         fn reads_only(e: &Expr, to: &Ty, x: usize) -> bool {
             match (e, to) {

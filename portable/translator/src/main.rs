@@ -3,8 +3,9 @@
 //!     translator FILE.mir --sum TEXT [--sources DIR]..                             a program: its main
 //!     translator FILE.mir --sum TEXT [--sources DIR].. --header HEADER --crate NAME   a library: a function for each prototype of the header
 //!
-//! The reading is in term.rs, types.rs, operations.rs and code.rs, one form of MIR in one place; flow.rs makes it short; write.rs and boundary.rs write it. names.rs has the sources' names.
-//! A form that it does not know ends it with a message and status 1, and nothing is written.
+//! The reading is in term.rs, types.rs, operations.rs and code.rs, one form of MIR in one place; flow.rs
+//! makes it short; write.rs and boundary.rs write it. names.rs has the sources' names. A form that it does
+//! not know ends it with a message and status 1, and nothing is written.
 mod boundary;
 mod code;
 mod flow;

@@ -1,5 +1,6 @@
-//! Names and comments from the `.rt` sources, since MIR has numbers alone: of parameters, of the variables that a body binds, of fields and of variants.
-//! They follow the sources' one layout (`rt fmt`). A name is for the reader only: where none is found, the number stands, and nothing else depends on it.
+//! Names and comments from the `.rt` sources, since MIR has numbers alone: of parameters, of the variables
+//! that a body binds, of fields and of variants. They follow the sources' one layout (`rt fmt`). A name is
+//! for the reader only: where none is found, the number stands, and nothing else depends on it.
 use std::collections::BTreeMap;
 use std::path::Path;
 

@@ -1,6 +1,8 @@
-//! The operations of MIR that our crates use, each in one place: how it is read, what type it gives and how C computes it (the logic's Mir/Val.antt says what
-//! each gives). Integers are bits. What is signed in MIR is an operation, and C computes it on the signed number of these bits, `s64(x)`. The others (signed
-//! division, operations on single bits, shifts to the right, floats to integers) are not here: MIR with one of them ends the translator, which names it.
+//! The operations of MIR that our crates use, each in one place: how it is read, what type it gives and how C
+//! computes it (the logic's Mir/Val.antt says what each gives). Integers are bits. What is signed in MIR is
+//! an operation, and C computes it on the signed number of these bits, `s64(x)`. The others (signed division,
+//! operations on single bits, shifts to the right, floats to integers) are not here: MIR with one of them
+//! ends the translator, which names it.
 use crate::term::Term;
 use crate::types::Ty;
 use std::collections::BTreeSet;
@@ -68,7 +70,8 @@ impl Op2 {
         }
     }
 
-    /// Whether the result is rounded. Such an operation stays a statement of its own: within one expression a compiler may fuse two of them into one.
+    /// Whether the result is rounded. Such an operation stays a statement of its own: within one expression a
+    /// compiler may fuse two of them into one.
     pub fn rounds(self) -> bool {
         matches!(self, Op2::FloatAdd | Op2::FloatSub | Op2::FloatMul | Op2::FloatDiv)
     }
@@ -82,7 +85,8 @@ impl Op2 {
         }
     }
 
-    /// The text, of operands of one type as atoms. Below 32 bits C would compute in int: there one operand is made 32 bits wide, and the result cut.
+    /// The text, of operands of one type as atoms. Below 32 bits C would compute in int: there one operand is
+    /// made 32 bits wide, and the result cut.
     pub fn text(self, a: &str, b: &str, t: &Ty, helpers: &mut Helpers) -> Option<String> {
         use Op2::*;
         let narrow = matches!(t, Ty::Int(8 | 16));
@@ -152,7 +156,8 @@ impl Op1 {
     }
 }
 
-/// Functions on bits, of the width for %. The signed number of some bits goes by memcpy, since a conversion is the implementation's to define.
+/// Functions on bits, of the width for %. The signed number of some bits goes by memcpy, since a conversion
+/// is the implementation's to define.
 const HELPERS: &[(&str, &str)] = &[
     ("s", "static inline int%_t s%(uint%_t x)\n{\n    int%_t y;\n    memcpy(&y, &x, sizeof y);\n    return y;\n}\n"),
     ("bits", "static inline uint%_t bits%(double x)\n{\n    uint%_t y;\n    memcpy(&y, &x, sizeof y);\n    return y;\n}\n"),

@@ -1,4 +1,5 @@
-//! The term that `rt mir NAME` prints, read into a tree: words, and brackets around a constructor and what it is given.
+//! The term that `rt mir NAME` prints, read into a tree: words, and brackets around a constructor and what it
+//! is given.
 
 pub enum Term {
     Word(String),

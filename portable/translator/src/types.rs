@@ -1,5 +1,6 @@
-//! Types of MIR: how they are read, how large they are there (the logic's Prog/Memory.antt), what they are called in C and how they are defined there.
-//! An integer is its bits, so it is unsigned; what reads it as signed says so (operations.rs).
+//! Types of MIR: how they are read, how large they are there (the logic's Prog/Memory.antt), what they are
+//! called in C and how they are defined there. An integer is its bits, so it is unsigned; what reads it as
+//! signed says so (operations.rs).
 use crate::names::{safe, Names};
 use crate::term::{fail, Term};
 use std::collections::{BTreeMap, BTreeSet};
@@ -256,7 +257,8 @@ impl<'a> Types<'a> {
         text
     }
 
-    /// Of an enum: its tag, and for each variant that has fields a struct that begins with the tag (Rust's repr(u8)).
+    /// Of an enum: its tag, and for each variant that has fields a struct that begins with the tag (Rust's
+    /// repr(u8)).
     fn union_members(&self, symbol: &str, variants: &[Vec<Ty>]) -> String {
         let mut text = "    uint8_t tag;\n".to_string();
         for (v, fields) in variants.iter().enumerate().filter(|(_, fields)| !fields.iter().all(|f| self.empty(f))) {

@@ -1,4 +1,5 @@
-//! A function's code as statements of C. Each statement has one effect; an operation that rounds is a statement of its own.
+//! A function's code as statements of C. Each statement has one effect; an operation that rounds is a
+//! statement of its own.
 use crate::code::{Expr, Function, Stmt};
 use crate::flow::{own, Ready, Scope};
 use crate::names::{safe, Names};
@@ -7,7 +8,8 @@ use crate::term::fail;
 use crate::types::{c_name, Ty};
 use std::collections::BTreeSet;
 
-/// The names of a function's locals: the source's, where they are found and no two are alike, else r, a1 .. for parameters and v2 .. for others.
+/// The names of a function's locals: the source's, where they are found and no two are alike, else r, a1 ..
+/// for parameters and v2 .. for others.
 pub fn local_names(names: &Names, symbol: &str, f: &Function, globals: &BTreeSet<String>) -> Vec<String> {
     let (params, bound) = names.functions.get(symbol).cloned().unwrap_or_default();
     let mut all = vec!["result".to_string()];
@@ -48,7 +50,8 @@ struct Enclosing {
     jumped_to: bool,
 }
 
-/// The text as an operand: in brackets, unless it is a name, a number, a call, a part of one, or a cast of such.
+/// The text as an operand: in brackets, unless it is a name, a number, a call, a part of one, or a cast of
+/// such.
 fn atom(text: String) -> String {
     if is_atom(&text) {
         text
@@ -314,7 +317,8 @@ impl<'r, 'a> Writer<'r, 'a> {
 
     // ---- statements
 
-    /// Writes statements up to one that the code does not come past, and tells whether it comes past them all.
+    /// Writes statements up to one that the code does not come past, and tells whether it comes past them
+    /// all.
     fn statements(&mut self, code: &[Stmt]) -> bool {
         let result = self.scope().locals[0].clone();
         for (i, s) in code.iter().enumerate() {

@@ -1,5 +1,6 @@
-//! The translator on small terms whose answers are plain from the logic's Mir/Val.antt and Prog/Machine.antt: what the library's own questions would not tell from a wrong
-//! translation, each a function of two numbers that is written as C, compiled and run. And forms that it does not know, which it has to refuse by name.
+//! The translator on small terms whose answers are plain from the logic's Mir/Val.antt and Prog/Machine.antt:
+//! what the library's own questions would not tell from a wrong translation, each a function of two numbers
+//! that is written as C, compiled and run. And forms that it does not know, which it has to refuse by name.
 use std::path::{Path, PathBuf};
 use std::process::{Command, Output, Stdio};
 use std::thread::sleep;
@@ -41,7 +42,8 @@ const U64: &str = "(tyInt 64)";
 const MUT: &str = "(tyRef erased mut (tyInt 32))";
 const FIVE: &str = "(tyArray (tyInt 32) (lenLit 5))";
 
-/// A function of two numbers of 32 bits, which are its locals 1 and 2: its other locals, a star before one in memory, and its statements, behind which local 0 is returned.
+/// A function of two numbers of 32 bits, which are its locals 1 and 2: its other locals, a star before one in
+/// memory, and its statements, behind which local 0 is returned.
 fn function(name: &str, locals: &[&str], body: &[String]) -> String {
     let home = |t: &&str| match t.strip_prefix('*') {
         Some(t) => format!("(local {t} memorySlot)"),
@@ -90,7 +92,8 @@ fn cases() -> Vec<Case> {
     let case =
         |name, locals: &[&'static str], body: Vec<String>, asked, wanted| Case { name, locals: locals.to_vec(), body, asked, wanted };
     let exits = |k: usize| {
-        // out of an inner loop in a block in an outer loop in a block: 0 turns the inner one, 1 leaves it, 2 turns the outer one, 3 leaves both
+        // out of an inner loop in a block in an outer loop in a block: 0 turns the inner one, 1 leaves it, 2
+        // turns the outer one, 3 leaves both
         let inner = seq(&[
             set(0, &op2("(add unsigned)", &copy(0), "(int 32 1)")),
             set(3, &op2("(lt unsigned)", &copy(0), &x)),
@@ -106,7 +109,8 @@ fn cases() -> Vec<Case> {
         vec![set(0, &of("(int 32 0)")), format!("(block (loop {outer}))")]
     };
     vec![
-        // a copy in memory that is written through its address: what is read behind that is not what was copied
+        // a copy in memory that is written through its address: what is read behind that is not what was
+        // copied
         case(
             "slot_is_a_copy",
             &["*(tyInt 32)", MUT],

@@ -561,7 +561,8 @@ fn refits(tally: &mut Tally, random: &mut Random) {
     refits_past_the_limit(tally, random);
 }
 
-/// Numbers near an exact solution of which one is a card unit or two beyond the limit, and stands on the card at the limit itself.
+/// Numbers near an exact solution of which one is a card unit or two beyond the limit, and stands on the card
+/// at the limit itself.
 fn cut_at_the_limit(random: &mut Random) -> Option<Numbers> {
     let n = random.within(3, 6) as usize;
     let mut minutes = vec![0];

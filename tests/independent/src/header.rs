@@ -30,8 +30,9 @@ fn the_limits_are_the_references() {
     }
 }
 
-/// The largest size of a value by the limits of a card's numbers, at every minute of every gap: each number of both knots at its limit, with the sign that adds. It is a whole
-/// number of hundredths, so that rounding adds nothing.
+/// The largest size of a value by the limits of a card's numbers, at every minute of every gap: each number
+/// of both knots at its limit, with the sign that adds. It is a whole number of hundredths, so that rounding
+/// adds nothing.
 #[test]
 fn no_value_lies_beyond_its_limit_and_one_may_lie_at_it() {
     let limits = [i128::from(ORDINATE_LIMIT), i128::from(CARD_NUMBER_LIMIT), i128::from(CARD_NUMBER_LIMIT)];
