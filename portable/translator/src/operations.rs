@@ -104,8 +104,8 @@ impl Op2 {
             (Rem, Ty::Int(_)) => cut(format!("{a} % {b}")),
             // the proof has the count below the width
             (Shl, Ty::Int(_)) => cut(format!("{first} << {b}")),
-            (Eq, Ty::Int(_) | Ty::Bool) => format!("{a} == {b}"),
-            (Ne, Ty::Int(_) | Ty::Bool) | (FloatNe, Ty::Float) => format!("{a} != {b}"),
+            (Eq, Ty::Int(_)) => format!("{a} == {b}"),
+            (Ne, Ty::Int(_)) | (FloatNe, Ty::Float) => format!("{a} != {b}"),
             (Lt(sign), Ty::Int(w)) => both("<", sign, *w),
             (Le(sign), Ty::Int(w)) => both("<=", sign, *w),
             (FloatLt, Ty::Float) => format!("{a} < {b}"),
@@ -146,7 +146,7 @@ impl Op1 {
             (Op1::Not, Ty::Int(_)) => format!("({})~{a}", t.c()),
             // a narrower number has the same low bits; a wider one of a signed number repeats its sign
             (Op1::Cast(true, w), Ty::Int(v)) if w > *v => format!("(uint{w}_t){}", helpers.signed(a, *v)),
-            (Op1::Cast(_, w), Ty::Int(_) | Ty::Bool) => format!("(uint{w}_t){a}"),
+            (Op1::Cast(_, w), Ty::Int(_)) => format!("(uint{w}_t){a}"),
             (Op1::FloatNeg, Ty::Float) => format!("-{a}"),
             (Op1::IntToFloat(true), Ty::Int(w)) => format!("(double){}", helpers.signed(a, *w)),
             (Op1::IntToFloat(false), Ty::Int(_)) => format!("(double){a}"),
