@@ -13,6 +13,7 @@ ghost use Rattle.card_bytes.specs.Held.{card-of};
 ghost use Rattle.card.specs.Answers.{own, checked, read-off};
 ghost use Rattle.card.specs.Promise.{lists, Reads};
 ghost use Rattle.table.specs.Promise.{columns, Tables};
+ghost use Rattle.swing.specs.Swing.{swung};
 ghost use Rattle.writer.specs.Promise.{Writes};
 ghost use Rattle.refit.specs.Promise.{Refits};
 ghost use Rattle.holes.specs.Hole.{mended};
@@ -27,12 +28,12 @@ ghost use Rattle.kaihveto.specs.Version.{version};
 // The boundary's version, as include/kaihveto.h names it.
 const MAJOR: u32 = 5;
 
-const MINOR: u32 = 1;
+const MINOR: u32 = 2;
 
 // The version in one number, so that a program can see that the library and the header which it was compiled with belong together.
 #[no_mangle]
 pub extern "C" fn kaihveto_version() -> u32
-    ensures { λ r. ⌜ r ≡ version 5 1 ⌝ }
+    ensures { λ r. ⌜ r ≡ version 5 2 ⌝ }
 {
     65536 * MAJOR + MINOR
 }
@@ -165,6 +166,14 @@ pub extern "C" fn kaihveto_table(
         (columns (values .exit) (slopes .exit) (curvatures .exit)) r ⌝ }
 {
     table::table(card, from, values, slopes, curvatures)
+}
+
+// How far a card's readings at whole minutes go beyond the two knots of a gap, in the gap that goes furthest: the card's.
+#[no_mangle]
+pub extern "C" fn kaihveto_swing(card: &[u8]) -> swing::Swung
+    ensures { λ r. ⌜ r ≡ swung (own (now (card .entry))) (card-of (now (card .entry))) ⌝ }
+{
+    swing::swing(card)
 }
 
 // The slopes and curvatures of a card's own knots fitted anew, at the front of two lists, and how many of the card's are others: 3, the card's, 26; 8; 9; 10.
