@@ -17,6 +17,7 @@ use Rattle.curve.proofs.Accepted.{same-lengths}
 use Rattle.lists.specs.Lists.{Checked as Sound-lists}
 use Rattle.card_bytes.specs.Bytes.{quintic-head}
 use Rattle.card_bytes.specs.Held.{card-of}
+use Rattle.card_bytes.proofs.RoundTrip.{accepted-card}
 use Rattle.decode.specs.declared.Card.{Card as Decoded}
 use Rattle.decode.specs.Decoded.{decoded, Full, Holds}
 use Rattle.opened.specs.declared.Opened.{Opened}
@@ -32,6 +33,10 @@ use Rattle.card.specs.Promise.{Lists, into, Reads}
 
 pub held : {o : Opened} {s : List ℕ} → Opens quintic quintic-head o s → own s ≡ accepted → Holds (o .card) s
 held = accepted-holds quintic-few
+
+-- the code's card of accepted bytes is a sound one
+pub sound-held : {d : Decoded} {s : List ℕ} → Holds d s → own s ≡ accepted → verdict quintic (decoded d) ≡ accepted
+sound-held h a = ap (verdict quintic) (h .is) ∙ accepted-card quintic quintic-head _ a
 
 -- what a reading asks of the fronts of the arrays
 pub sound-fronts : {d : Decoded} → Full d → verdict quintic (decoded d) ≡ accepted

@@ -5,14 +5,11 @@ use denote.Ref.{now}
 use Rattle.answer.specs.Answer.{accepted}
 use Rattle.answer.specs.Judge.{verdict-of}
 use Rattle.answer.proofs.Chain.{step-refuses}
-use Rattle.curve.specs.Kind.{quintic}
-use Rattle.curve.specs.Orders.{verdict, reading-order}
+use Rattle.curve.specs.Orders.{reading-order}
 use Rattle.lists.specs.Lists.{answered, answer-at}
-use Rattle.card_bytes.specs.Bytes.{quintic-head}
 use Rattle.card_bytes.specs.Held.{card-of}
-use Rattle.card_bytes.proofs.RoundTrip.{accepted-card}
 use Rattle.card.specs.Answers.{own, read-off}
-use Rattle.card.proofs.Lists.{held}
+use Rattle.card.proofs.Lists.{held, sound-held}
 use borrow.Author.Needs.{needs}
 use Rattle.card.proofs.reading.Statement.{statement}
 use Rattle.card.proofs.reading.Tie as tie
@@ -24,7 +21,7 @@ read-off-requires : tie.Need-read-off-requires
 read-off-requires c κs =
     let e = accepts c in
     let h = held (c .before .before .before .by-head .ensures) e in
-    (h .full, ap (verdict quintic) (h .is) ∙ accepted-card quintic quintic-head _ e)
+    (h .full, sound-held h e)
 
 returns : tie.Need-returns
 unfolding read-off answer-at reading-order

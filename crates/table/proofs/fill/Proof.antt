@@ -18,8 +18,9 @@ use Rattle.minutes.proofs.Halving.{found-gap}
 use Rattle.knots.specs.Lent.{lent}
 use Rattle.lists.specs.Lists.{In-place, curve-of, answer-at}
 use Rattle.lists.proofs.Settled.{minutes-rise}
+use Rattle.lists.proofs.ByGap.{curve-laid, minute-laid, curve-reads, in-place}
 use Rattle.table.specs.Table.{Stops}
-use Rattle.table.proofs.ByGap.{Filled-on, on-none, on-more, curve-laid, minute-laid, curve-reads, in-place, alike, not-past, still, on-to}
+use Rattle.table.proofs.ByGap.{Filled-on, on-none, on-more, alike, not-past, still, on-to}
 use Rattle.table.proofs.fill.Statement.{statement}
 use Rattle.table.proofs.fill.Tie as tie
 
@@ -117,7 +118,7 @@ module _ (c : tie.In-loop2 Inv-loop2 μ-loop2 Inv-loop μ-loop) where
   small = outer .before .before .before .shared-slice-known .given _ .fits
 
   place : In-place xs j minute
-  place = in-place (d .pre .0) j here first last
+  place = in-place (d .pre .0) j here last
 
   -- the minutes from the left knot, as the machine has them
   t-is : toZ w64 (minute - getD xs j 0) ≡ pos (minute - getD xs j 0)
