@@ -41,6 +41,8 @@ use Rattle.table.specs.Table.{count, tabled}
 use Rattle.table.specs.Promise.{Columns, table-verdict, rows, Tables}
 use Rattle.table.proofs.Tables.{took}
 use Rattle.table.proofs.Readings.{count-is}
+use Rattle.swing.specs.declared.Swung.{Swung}
+use Rattle.swing.specs.Swing.{swung}
 use Rattle.card.proofs.Lists.{Taken, order-takes, taken}
 use Rattle.writer.specs.declared.Written.{Written}
 use Rattle.writer.specs.Promise.{written, Writes}
@@ -50,7 +52,7 @@ use Rattle.refit.specs.Fresh.{fresh, refit}
 use Rattle.refit.specs.Promise.{refitted, after, Refits}
 use Rattle.refit.proofs.Renewal.{fresh-places}
 use Rattle.demands.specs.Calls.{Fitting, the-fit}
-use Rattle.demands.specs.Demands.{Is-given, Says, Spares, No-card, Fit-says, Fit-spares}
+use Rattle.demands.specs.Demands.{Is-given, Says, Spares, No-card, No-swing, Fit-says, Fit-spares}
 use Rattle.demands.proofs.Numbered.{says, accepts, mean-numbered, write-numbered, card-numbered, into-numbered, reading-numbered, table-numbered, refit-numbered}
 
 -- ---- lent lists
@@ -238,6 +240,18 @@ module _ {s : List ℕ} {from : ℕ} {entry exit : Columns} {r : Tabled} (tables
     where
       long : (f : ℕ → ℤ) → table-verdict entry s from ≡ accepted → length (listed f (rows entry s from)) ≡ r .count
       long f a = length-listed f (rows entry s from) ∙ sym (count-is tables a)
+
+-- ---- a swing
+
+swing-fields : (v : Verdict) (c : Card) → (let r = swung v c in (r .number ≡ number v) × (r .place ≡ place v) × No-swing r)
+unfolding swung number place
+swing-fields (refused n p) c = (refl, refl, λ h. (refl, refl, refl, refl))
+swing-fields (given u) c = (refl, refl, λ h. absurd (h refl))
+
+pub swing-answers : (s : List ℕ) {r : Swung} → r ≡ swung (own s) (card-of s) → Says (own s) (r .number) (r .place) × No-swing r
+swing-answers s e =
+    let f = swing-fields (own s) (card-of s) in
+    subst (λ r. Says (own s) (r .number) (r .place) × No-swing r) (sym e) (says (own s) (card-numbered s) (f .0) (f .1), f .2)
 
 -- ---- a card fitted anew
 

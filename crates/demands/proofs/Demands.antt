@@ -14,13 +14,14 @@ use Rattle.card_bytes.specs.Held.{card-of}
 use Rattle.card_bytes.proofs.RoundTrip.{accepted-card}
 use Rattle.card.specs.Answers.{own, read-off}
 use Rattle.table.specs.Promise.{table-verdict, Tables}
+use Rattle.swing.specs.Swing.{swung}
 use Rattle.book.specs.Lookup.{look-up, part}
 use Rattle.exact_fit.proofs.Solution.{one-exact}
-use Rattle.demands.specs.Calls.{A-fit, A-fit-between, without-ends, between-ends, A-write, written-card, buffer, A-check, checked-bytes, A-read, read-bytes, places, places′, reading-bytes, minute, A-table, table-bytes, from, lists-for, lists-for′, first-minute, log, sheet-minutes, sheet, A-book-find, the-book, the-room, the-part, A-book-put, put-book, put-book′, put-room, put-card}
+use Rattle.demands.specs.Calls.{A-fit, A-fit-between, without-ends, between-ends, A-write, written-card, buffer, A-check, checked-bytes, A-read, read-bytes, places, places′, reading-bytes, minute, A-table, table-bytes, from, lists-for, lists-for′, swing-bytes, first-minute, log, sheet-minutes, sheet, A-book-find, the-book, the-room, the-part, A-book-put, put-book, put-book′, put-room, put-card}
 use Rattle.demands.specs.Demands.{Fit-says, Accepts-as, Room-for, front, written-bytes, Off, Demand-1, Demand-2, Demand-3, Demands}
 use Rattle.fit.proofs.Numbered.{codes-numbered}
 use Rattle.demands.proofs.Numbered.{accepts}
-use Rattle.demands.proofs.Answered.{mean-answers, fit-says, fit-spares, check-answers, read-answers, read-spares, write-answers, write-spares, reading-answers, table-answers, table-spares, refit-answers, refit-spares}
+use Rattle.demands.proofs.Answered.{mean-answers, fit-says, fit-spares, check-answers, read-answers, read-spares, write-answers, write-spares, reading-answers, table-answers, table-spares, swing-answers, refit-answers, refit-spares}
 use Rattle.demands.proofs.Given.{eliminates, mean-given}
 use Rattle.demands.proofs.FitToCard.{default-rests, default-is-kept, between-is-kept, read-back}
 use Rattle.demands.proofs.Anew.{fresh-eliminates, fresh-is-kept}
@@ -28,6 +29,7 @@ use Rattle.demands.proofs.MendedSheet.{mend-answers, mend-spares, mend-
 use Rattle.demands.proofs.Books.{find-answers, put-answers, put-spares, leaves-a-book, is-found, others-cards, others-found, part-is, part-passes, handed-back, find-never, puts-never}
 use Rattle.demands.proofs.RoundTrip.{written-accepted, written-held, accepts-its-card, reads-its-card, made-again}
 use Rattle.demands.proofs.Off.{stands-on-a-gap, of-card, close, at-knots, looks, gap-left, on-its-card, in-table, table-counted}
+use Rattle.demands.proofs.Swung.{swings}
 use Rattle.demands.proofs.NeverTen.{codes-never, written-never, checked-never, read-never, read-off-never, table-never, fitted-never, mended-never, refitted-never}
 
 -- ---- 1
@@ -60,6 +62,8 @@ one =
       table = λ c. table-answers (c .promised) .0;
       table-zeros = λ c. table-answers (c .promised) .1;
       table-spares = λ c. table-spares (c .promised);
+      swing = λ c. swing-answers (swing-bytes c) (c .promised) .0;
+      swing-zeros = λ c. swing-answers (swing-bytes c) (c .promised) .1;
       refit = λ c. refit-answers (c .promised) .0;
       refit-zeros = λ c. refit-answers (c .promised) .1;
       refit-spares = λ c. refit-spares (c .promised);
@@ -149,6 +153,7 @@ off s a =
           let v = table-accepted t same zero in
           (on-its-card s a tables v i l, λ r again there. in-table s a tables v i l (r .promised ∙ ap₂ read-off again there));
       table-counts = λ t same zero. table-counted s a (table-of t same) (table-accepted t same zero);
+      swings = λ w same zero. swings s a (w .promised ∙ ap (λ s. swung (own s) (card-of s)) same);
       jumps = of-card s a .jumps;
     }
 
@@ -162,6 +167,7 @@ three =
       read-never-10 = λ c half e. read-never (read-bytes c) half (places c) (sym (one .read c .number) ∙ e);
       reading-never-10 = λ c half e. read-off-never (reading-bytes c) half (minute c) (sym (one .reading c .number) ∙ e);
       table-never-10 = λ c half e. table-never (table-bytes c) half (lists-for c) (from c) (sym (one .table c .number) ∙ e);
+      swing-never-10 = λ c half e. checked-never (swing-bytes c) half (sym (one .swing c .number) ∙ e);
       book-find-never-10 = λ c half e. find-never (the-room c) (the-book c) half (sym (one .book-find c .number) ∙ e);
       book-put-never-10 = λ c half e. puts-never (put-room c) (put-card c) (put-book c) half (sym (one .book-put c .number) ∙ e);
       fit-never-10 = λ c half e. fitted-never (without-ends c) given-never half (sym (fits c .number) ∙ e);

@@ -2,6 +2,7 @@ pub mod Numbered
 pub mod Answered
 pub mod RoundTrip
 pub mod Off
+pub mod Swung
 pub mod NeverTen
 pub mod Given
 pub mod Books

@@ -32,6 +32,7 @@ use Rattle.kaihveto.proofs.kaihveto_check.Reads as check
 use Rattle.kaihveto.proofs.kaihveto_read.Reads as read
 use Rattle.kaihveto.proofs.kaihveto_reading.Reads as reading
 use Rattle.kaihveto.proofs.kaihveto_table.Reads as table
+use Rattle.kaihveto.proofs.kaihveto_swing.Reads as swing
 use Rattle.kaihveto.proofs.kaihveto_refit.Reads as refit
 use Rattle.kaihveto.proofs.kaihveto_book_find.Reads as book-find
 use Rattle.kaihveto.proofs.kaihveto_book_put.Reads as book-put
@@ -205,6 +206,14 @@ lists-for′ c = let s = c .exit in columns (s .1 .1 .0) (s .1 .1 .1 .0) (s .1 .
 -- the three numbers at a place of its lists at exit
 abbrev pub row : A-table → ℕ → Reading
 row c i = let l = lists-for′ c in record { value = getD (l .values) i (pos 0); slope = getD (l .slopes) i (pos 0); curvature = getD (l .curvatures) i (pos 0) }
+
+-- ---- kaihveto_swing(card)
+
+abbrev pub A-swing : Type 0
+A-swing = Call swing.Post
+
+abbrev pub swing-bytes : A-swing → List ℕ
+swing-bytes c = now (c .arguments .0)
 
 -- ---- kaihveto_refit(card, slopes, curvatures)
 

@@ -3,7 +3,7 @@
 use mathlib.Core.Path.{_≡_}
 use mathlib.Core.Logic.{_≢_}
 use mathlib.Core.List.{List, []}
-use Prim.Native.Nat.{ℕ, _+_, _-_, _*_, _^_, _≤_, _<_, min}
+use Prim.Native.Nat.{ℕ, _+_, _-_, _*_, _^_, _≤_, _<_, min, max}
 use lib.IntN.{ℤ, pos}
 use lib.ListN.{length, take, drop}
 use lib.Dec.{T}
@@ -33,6 +33,8 @@ use Rattle.card.specs.declared.Checked.{Checked}
 use Rattle.card.specs.Answers.{own}
 use Rattle.card.specs.Promise.{Lists, into}
 use Rattle.table.specs.Promise.{table-verdict}
+use Rattle.swing.specs.declared.Swung.{Swung}
+use Rattle.swing.specs.Swing as Swing
 use Rattle.mend.specs.Changes.{restored}
 use Rattle.mending.specs.Listed.{Lists-the-holes}
 use Rattle.refit.specs.Fresh as Fresh
@@ -40,7 +42,7 @@ use Rattle.book.specs.Book.{Entry, book-bytes, size, book}
 use Rattle.book.specs.Lookup.{look-up}
 use Rattle.book_put.specs.Put as Put
 use Rattle.bookkeeping.specs.Card.{card-in}
-use Rattle.demands.specs.Calls.{A-mean, first-minute, log, A-fit, A-fit-between, Fitting, without-ends, fitted-card, between-ends, card-between, the-fit, worked-out, A-write, written-card, buffer, buffer′, A-check, checked-bytes, A-read, read-bytes, places, places′, A-reading, reading-bytes, minute, three, A-table, table-bytes, from, lists-for, lists-for′, row, A-refit, refit-bytes, fresh-slopes, fresh-curvatures, fresh-slopes′, fresh-curvatures′, old-card, anew, fresh-card, A-mend, sheet-minutes, sheet, sheet′, change-list, change-list′, of-the-mended, mended-card, the-mending, A-book-find, the-book, the-room, the-part, A-book-put, put-book, put-book′, put-room, put-card}
+use Rattle.demands.specs.Calls.{A-mean, first-minute, log, A-fit, A-fit-between, Fitting, without-ends, fitted-card, between-ends, card-between, the-fit, worked-out, A-write, written-card, buffer, buffer′, A-check, checked-bytes, A-read, read-bytes, places, places′, A-reading, reading-bytes, minute, three, A-table, table-bytes, from, lists-for, lists-for′, row, A-swing, swing-bytes, A-refit, refit-bytes, fresh-slopes, fresh-curvatures, fresh-slopes′, fresh-curvatures′, old-card, anew, fresh-card, A-mend, sheet-minutes, sheet, sheet′, change-list, change-list′, of-the-mended, mended-card, the-mending, A-book-find, the-book, the-room, the-part, A-book-put, put-book, put-book′, put-room, put-card}
 
 -- ---- 1. "Every input gets an answer: bad knots, logs, cards and minutes are refused by number and place, the numbers beside a refusal are zero, and lent memory stays untouched."
 
@@ -65,6 +67,10 @@ pub record Spares {A : Type 0} (n k : ℕ) (entry exit : List A) : Type 0 where
 abbrev pub No-card : Checked → Type 0
 No-card r = r .number ≢ 0 → (r .knots ≡ 0) × (r .left ≡ 0) × (r .right ≡ 0)
 
+-- and beside that of a card whose swing is asked
+abbrev pub No-swing : Swung → Type 0
+No-swing r = r .number ≢ 0 → (r .knot ≡ 0) × (r .minute ≡ 0) × (r .below ≡ 0) × (r .above ≡ 0)
+
 -- an answer to a fit, by its order: 3, 1, 2, 15; per knot 4, 5, 6; 7; 8; 9; 10
 abbrev pub Fit-says : Fitting → Type 0
 Fit-says f = Says (the-fit f) (f .answer .number) (f .answer .place)
@@ -88,6 +94,8 @@ pub record Demand-1 : Type 0 where
   pub reading : (c : A-reading) → Says (reading-order (own (reading-bytes c)) (card-of (reading-bytes c)) (minute c)) (c .answer .number) (c .answer .place)
   -- 3, the card's, 11
   pub table : (c : A-table) → Says (table-verdict (lists-for c) (table-bytes c) (from c)) (c .answer .number) (c .answer .place)
+  -- the card's
+  pub swing : (c : A-swing) → Says (own (swing-bytes c)) (c .answer .number) (c .answer .place)
   -- 3, the card's, 26; then the fit's own
   pub refit : (c : A-refit) → Says (Fresh.refit (length (fresh-slopes c)) (length (fresh-curvatures c)) (refit-bytes c)) (c .answer .number) (c .answer .place)
   -- 3, 1, 2; per knot 4, 5, 6; 17; 18; then the fit's own
@@ -103,6 +111,7 @@ pub record Demand-1 : Type 0 where
   pub read-zeros : (c : A-read) → No-card (c .answer)
   pub reading-zeros : (c : A-reading) → c .answer .number ≢ 0 → (c .answer .value ≡ pos 0) × (c .answer .slope ≡ pos 0) × (c .answer .curvature ≡ pos 0) × (c .answer .looks ≡ 0)
   pub table-zeros : (c : A-table) → c .answer .number ≢ 0 → c .answer .count ≡ 0
+  pub swing-zeros : (c : A-swing) → No-swing (c .answer)
   pub refit-zeros : (c : A-refit) → c .answer .number ≢ 0 → (c .answer .knots ≡ 0) × (c .answer .changed ≡ 0)
   pub mend-zeros : (c : A-mend) → c .answer .number ≢ 0 → c .answer .count ≡ 0
   pub book-find-zeros : (c : A-book-find) → c .answer .number ≢ 0 → (c .answer .start ≡ 0) × (c .answer .length ≡ 0)
@@ -246,6 +255,39 @@ pub record Looks (card : Card) (m n : ℕ) : Type 0 where
   pub few : (p : ℕ) → knots card - 1 ≤ 2 ^ p → n ≤ p
   pub six : n ≤ 6
 
+-- a minute of a card's gap for which something holds
+pub record A-minute (card : Card) (i : ℕ) (P : ℕ → Type 0) : Type 0 where
+  pub at : ℕ
+  pub minutes : ℕ
+  pub on : On-gap card at i minutes
+  pub holds : P at
+
+-- how far a reading is below the lower of a gap's two knots, above the higher, and beyond either
+abbrev pub below : Card → ℕ → A-reading → ℕ
+below card i r = Swing.below (knot card i .y) (knot card (i + 1) .y) (r .answer .value)
+
+abbrev pub above : Card → ℕ → A-reading → ℕ
+above card i r = Swing.above (knot card i .y) (knot card (i + 1) .y) (r .answer .value)
+
+abbrev pub beyond : Card → ℕ → A-reading → ℕ
+beyond card i r = max (below card i r) (above card i r)
+
+-- a card's swing, by what is read off its bytes
+pub record Swings (s : List ℕ) (w : Swung) : Type 0 where
+  -- it names a gap of the card, and a minute of that gap
+  pub on-its-gap : On-gap (card-of s) (w .minute) (w .knot) (w .minute - knot (card-of s) (w .knot) .x)
+  -- in that gap the readings go so far below and above its knots, and no further
+  pub at-most : (r : A-reading) → reading-bytes r ≡ s → (t : ℕ) → On-gap (card-of s) (minute r) (w .knot) t →
+      (below (card-of s) (w .knot) r ≤ w .below) × (above (card-of s) (w .knot) r ≤ w .above)
+  pub so-low : A-minute (card-of s) (w .knot) (λ m. (r : A-reading) → reading-bytes r ≡ s → minute r ≡ m → below (card-of s) (w .knot) r ≡ w .below)
+  pub so-high : A-minute (card-of s) (w .knot) (λ m. (r : A-reading) → reading-bytes r ≡ s → minute r ≡ m → above (card-of s) (w .knot) r ≡ w .above)
+  -- at its minute the card is as far beyond; in no gap it goes further, in an earlier gap not so far, and in its own not so far before its minute
+  pub there : (r : A-reading) → reading-bytes r ≡ s → minute r ≡ w .minute → beyond (card-of s) (w .knot) r ≡ max (w .below) (w .above)
+  pub furthest : (r : A-reading) → reading-bytes r ≡ s → (i t : ℕ) → On-gap (card-of s) (minute r) i t → beyond (card-of s) i r ≤ max (w .below) (w .above)
+  pub first-gap : (r : A-reading) → reading-bytes r ≡ s → (i t : ℕ) → On-gap (card-of s) (minute r) i t → i < w .knot → beyond (card-of s) i r < max (w .below) (w .above)
+  pub first-there : (r : A-reading) → reading-bytes r ≡ s → (t : ℕ) → On-gap (card-of s) (minute r) (w .knot) t → minute r < w .minute →
+      beyond (card-of s) (w .knot) r < max (w .below) (w .above)
+
 -- of bytes, and the card that they hold
 pub record Off (s : List ℕ) : Type 0 where
   -- "at any whole minute of it"
@@ -264,6 +306,8 @@ pub record Off (s : List ℕ) : Type 0 where
       On-the-card (card-of s) (from t + i) × ((r : A-reading) → reading-bytes r ≡ s → minute r ≡ from t + i → (r .answer .number ≡ 0) × (row t i ≡ three r))
   pub table-counts : (t : A-table) → table-bytes t ≡ s → t .answer .number ≡ 0 →
       t .answer .count ≡ min (length (lists-for t .values)) (knot (card-of s) (knots (card-of s) - 1) .x + 1 - from t)
+  -- and so beside the knots: the gap whose readings go furthest beyond its two knots
+  pub swings : (c : A-swing) → swing-bytes c ≡ s → c .answer .number ≡ 0 → Swings s (c .answer)
   -- "third and fourth derivatives jump by no more than is allowed"
   pub jumps : (i : ℕ) → i + 2 < knots (card-of s) → (o : Order) → T (quintic .asks inner o) →
       Jump-within quintic o (knot (card-of s) i) (knot (card-of s) (i + 1)) (knot (card-of s) (i + 2))
@@ -284,6 +328,7 @@ pub record Demand-3 : Type 0 where
   pub read-never-10 : (c : A-read) → Half-a-unit (card-of (read-bytes c)) → c .answer .number ≢ 10
   pub reading-never-10 : (c : A-reading) → Half-a-unit (card-of (reading-bytes c)) → c .answer .number ≢ 10
   pub table-never-10 : (c : A-table) → Half-a-unit (card-of (table-bytes c)) → c .answer .number ≢ 10
+  pub swing-never-10 : (c : A-swing) → Half-a-unit (card-of (swing-bytes c)) → c .answer .number ≢ 10
   pub book-find-never-10 : (c : A-book-find) → ((card : List ℕ) → card-in (the-room c) (the-book c) ≡ Answer.given card → Half-a-unit (card-of card)) → c .answer .number ≢ 10
   pub book-put-never-10 : (c : A-book-put) → Half-a-unit (card-of (put-card c)) → c .answer .number ≢ 10
   -- nor the numbers that a fit works out

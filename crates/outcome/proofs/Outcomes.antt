@@ -76,6 +76,8 @@ use Rattle.card.proofs.reading.Reads as reading
 use Rattle.table.specs.declared.Tabled.{Tabled}
 use Rattle.table.specs.Promise.{Columns, Tables}
 use Rattle.table.proofs.table.Reads as table
+use Rattle.swing.proofs.gap.Reads as swing-gap
+use Rattle.swing.proofs.swing.Reads as swing
 use Rattle.writer.specs.declared.Written.{Written}
 use Rattle.writer.specs.Promise.{Writes}
 use Rattle.writer.proofs.write.Reads as write
@@ -192,6 +194,7 @@ use Rattle.kaihveto.proofs.kaihveto_check.Reads as c-check
 use Rattle.kaihveto.proofs.kaihveto_read.Reads as c-read
 use Rattle.kaihveto.proofs.kaihveto_reading.Reads as c-reading
 use Rattle.kaihveto.proofs.kaihveto_table.Reads as c-table
+use Rattle.kaihveto.proofs.kaihveto_swing.Reads as c-swing
 use Rattle.kaihveto.proofs.kaihveto_refit.Reads as c-refit
 use Rattle.kaihveto.proofs.kaihveto_book_find.Reads as c-book-find
 use Rattle.kaihveto.proofs.kaihveto_book_put.Reads as c-book-put
@@ -419,6 +422,9 @@ card-read = reading-into _ _ _
 pub card-tabled : Once table.Post × Lent table.Post (λ s. now (s .1 .1 .0)) × Lent table.Post (λ s. now (s .1 .1 .1 .0)) × Lent table.Post (λ s. now (s .1 .1 .1 .1 .0))
 card-tabled = tabling _ _ _ _
 
+pub card-swung : Once swing-gap.Post × Once swing.Post
+card-swung = (equation _ _, equation _ _)
+
 -- the buffer is the seventh
 pub card-written : Once write.Post × Lent write.Post (λ s. now (s .1 .1 .1 .1 .1 .1 .0))
 card-written = writing _ _ _
@@ -576,8 +582,8 @@ card-listed = (
 pub boundary-version : Once c-version.Post
 boundary-version = equation _ _
 
-pub boundary : Once c-mean.Post × Once c-check.Post × Once c-reading.Post
-boundary = (with-more _ _ (equation _ _), with-more _ _ (equation _ _), equation _ _)
+pub boundary : Once c-mean.Post × Once c-check.Post × Once c-reading.Post × Once c-swing.Post
+boundary = (with-more _ _ (equation _ _), with-more _ _ (equation _ _), equation _ _, equation _ _)
 
 pub boundary-fit : Once c-fit.Post × Lent c-fit.Post (λ s. now (s .1 .1 .0)) × Lent c-fit.Post (λ s. now (s .1 .1 .1 .0))
 boundary-fit = fitting _ _ _ _ _
