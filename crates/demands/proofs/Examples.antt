@@ -1,10 +1,10 @@
 -- The page is of something: each function accepts a call. Table 3's knots are accepted by the fit without
 -- ends and between free ends; its card is accepted by the writer, its bytes by the card test, the reader, a
--- reading, a table and the fresh fit, and it is within half a unit of an exact solution, as are the numbers
--- of these fits; it is put into a book and found there. P7's knots with a hole are mended, and P8's log has a
--- mean.
+-- reading, a table, the swing and the fresh fit, and it is within half a unit of an exact solution, as are the
+-- numbers of these fits; it is put into a book and found there. P7's knots with a hole are mended, and P8's log
+-- has a mean.
 -- Assumes nothing.
-use mathlib.Core.Path.{_≡_, refl, sym, ap, _∙_, subst}
+use mathlib.Core.Path.{_≡_, refl, sym, ap, ap₂, _∙_, subst}
 use mathlib.Core.List.{List, [], _∷_, _++_}
 use Prim.Native.Nat.{ℕ, zero, suc, _+_}
 use native.Mathlib.Omega.{arith}
@@ -36,6 +36,8 @@ use Rattle.card.specs.Answers.{own, checked, read-off}
 use Rattle.card.specs.Promise.{Lists, into}
 use Rattle.table.specs.Table.{table-order, tabled}
 use Rattle.table.specs.Promise.{Columns, table-verdict, rows}
+use Rattle.swing.specs.Swing.{swung}
+use Rattle.swing.proofs.Examples.{cards}
 use Rattle.writer.specs.Promise.{written}
 use Rattle.knots.specs.Lent.{lent}
 use Rattle.log.specs.Answers as Log-answers
@@ -65,7 +67,7 @@ use Rattle.book_put.specs.Put.{entry, put-in, after}
 use Rattle.book_put.proofs.Answers.{fits}
 use Rattle.bookkeeping.proofs.Inverse.{no-room}
 use Rattle.kaihveto.specs.Types.{Minutes, Room}
-use Rattle.demands.specs.Calls.{A-mean, A-fit, A-fit-between, without-ends, between-ends, card-between, worked-out, A-write, written-card, A-check, A-read, A-reading, A-table, A-refit, anew, A-mend, of-the-mended, A-book-put, A-book-find}
+use Rattle.demands.specs.Calls.{A-mean, A-fit, A-fit-between, without-ends, between-ends, card-between, worked-out, A-write, written-card, A-check, A-read, A-reading, A-table, A-swing, A-refit, anew, A-mend, of-the-mended, A-book-put, A-book-find}
 use Rattle.demands.specs.Demands.{Is-given, Room-for, On-the-card, Half-a-unit}
 use Rattle.demands.proofs.Written.{card-bytes}
 use Rattle.demands.proofs.Witnesses.{rest-is-near, line-is-near}
@@ -384,6 +386,13 @@ module _ (lifetime : Lft) (pointer : ℕ × ℕ) (name : GName) where
   pub table-accepts : table-call .answer .number ≡ 0
   unfolding tabled
   table-accepts = ap (λ v. tabled v (rows columns-for bytes 4) .number) tables
+
+  abbrev pub swing-call : A-swing
+  swing-call = record { lifetimes = (lifetime, tt); arguments = (list bytes, tt); answer = swung (own bytes) (card-of bytes); exit = (list bytes, tt); promised = refl }
+
+  -- 65 hundredths below its first gap's knots, at minute 6
+  pub swing-is : swing-call .answer ≡ record { number = 0; place = 0; knot = 0; minute = 6; below = 65; above = 0 }
+  swing-is = ap₂ swung bytes-accepted (table-3-bytes .2) ∙ cards .0
 
   abbrev pub put-call : A-book-put
   put-call =
