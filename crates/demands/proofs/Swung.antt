@@ -14,7 +14,6 @@ use Rattle.curve.specs.Demand.{On-gap}
 use Rattle.curve.proofs.Accepted.{Good, good, not-falling, gap-wide}
 use Rattle.curve.proofs.Gap.{card-in}
 use Rattle.minutes.specs.Search.{found}
-use Rattle.lists.specs.declared.CardReading.{CardReading}
 use Rattle.lists.specs.Lists.{answered, answer-at}
 use Rattle.card_bytes.specs.Bytes.{quintic-head}
 use Rattle.card_bytes.specs.Held.{card-of}

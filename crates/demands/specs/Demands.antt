@@ -281,7 +281,8 @@ pub record Swings (s : List ℕ) (w : Swung) : Type 0 where
       (below (card-of s) (w .knot) r ≤ w .below) × (above (card-of s) (w .knot) r ≤ w .above)
   pub so-low : A-minute (card-of s) (w .knot) (λ m. (r : A-reading) → reading-bytes r ≡ s → minute r ≡ m → below (card-of s) (w .knot) r ≡ w .below)
   pub so-high : A-minute (card-of s) (w .knot) (λ m. (r : A-reading) → reading-bytes r ≡ s → minute r ≡ m → above (card-of s) (w .knot) r ≡ w .above)
-  -- at its minute the card is as far beyond; in no gap it goes further, in an earlier gap not so far, and in its own not so far before its minute
+  -- at its minute the card is as far beyond; in no gap it goes further, in an earlier gap not so far, and in
+  -- its own not so far before its minute
   pub there : (r : A-reading) → reading-bytes r ≡ s → minute r ≡ w .minute → beyond (card-of s) (w .knot) r ≡ max (w .below) (w .above)
   pub furthest : (r : A-reading) → reading-bytes r ≡ s → (i t : ℕ) → On-gap (card-of s) (minute r) i t → beyond (card-of s) i r ≤ max (w .below) (w .above)
   pub first-gap : (r : A-reading) → reading-bytes r ≡ s → (i t : ℕ) → On-gap (card-of s) (minute r) i t → i < w .knot → beyond (card-of s) i r < max (w .below) (w .above)

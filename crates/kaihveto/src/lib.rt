@@ -168,7 +168,8 @@ pub extern "C" fn kaihveto_table(
     table::table(card, from, values, slopes, curvatures)
 }
 
-// How far a card's readings at whole minutes go beyond the two knots of a gap, in the gap that goes furthest: the card's.
+// How far a card's readings at whole minutes go beyond the two knots of a gap, in the gap that goes furthest:
+// the card's.
 #[no_mangle]
 pub extern "C" fn kaihveto_swing(card: &[u8]) -> swing::Swung
     ensures { λ r. ⌜ r ≡ swung (own (now (card .entry))) (card-of (now (card .entry))) ⌝ }

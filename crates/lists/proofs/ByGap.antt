@@ -9,7 +9,7 @@ use native.Mathlib.Omega.{arith}
 use lib.IntN.{ℤ, pos, natAbs}
 use lib.ListN.{length, getD}
 use Rattle.curve.specs.Card.{Card, knot, gap}
-use Rattle.curve.specs.Reading.{reads, reads-at, spell, gap-of}
+use Rattle.curve.specs.Reading.{reads, reads-at, spell}
 use Rattle.curve.proofs.Gap.{IsGap, gap-is, gap-once}
 use Rattle.knots.specs.Lent.{lent}
 use Rattle.gaps.specs.declared.Knot.{Knot}

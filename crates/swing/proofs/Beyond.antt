@@ -1,5 +1,5 @@
--- What one number is more than another, and how far a value is beyond two ordinates: never below both and above
--- both. Assumes nothing.
+-- What one number is more than another, and how far a value is beyond two ordinates: never below both and
+-- above both. Assumes nothing.
 use mathlib.Core.Path.{_≡_, refl, _∙_}
 use mathlib.Core.Logic.{_⊎_, inl, inr, ⊎-elim}
 use Prim.Native.Nat.{ℕ, _+_, _*_, _≤_, _<_}

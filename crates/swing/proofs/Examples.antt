@@ -1,6 +1,6 @@
--- Swings, computed from the definitions: of Table 3's card, whose first and last gaps go equally far, of a gap that
--- goes equally far to both sides before one that goes further, and of a card that stays within. The numbers were
--- worked out apart, by the exact curve in fractions. Assumes nothing.
+-- Swings, computed from the definitions: of Table 3's card, whose first and last gaps go equally far, of a
+-- gap that goes equally far to both sides before one that goes further, and of a card that stays within. The
+-- numbers were worked out apart, by the exact curve in fractions. Assumes nothing.
 use mathlib.Core.Path.{_≡_, refl}
 use mathlib.Core.List.{[], _∷_}
 use Prim.Native.Nat.{ℕ}

@@ -1,5 +1,5 @@
--- The first place at which a function is largest: it is one of the places, nowhere is the function larger, and
--- before it smaller. Assumes nothing.
+-- The first place at which a function is largest: it is one of the places, nowhere is the function larger,
+-- and before it smaller. Assumes nothing.
 use mathlib.Core.Path.{_≡_, refl, sym, ap, _∙_, subst}
 use mathlib.Core.Bool.{Bool, true, false, cond}
 use Prim.Native.Nat.{ℕ, zero, suc, _+_, _≤_, _<_}

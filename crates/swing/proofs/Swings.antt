@@ -18,8 +18,8 @@ widest-is c = peak-is _ _
 
 -- ---- a gap
 
--- the first place at which the larger of two functions is largest is where the one of them is, if the other is nowhere
--- larger and before that place smaller
+-- the first place at which the larger of two functions is largest is where the one of them is, if the other
+-- is nowhere larger and before that place smaller
 leads : {f g k : ℕ → ℕ} {n p q : ℕ} → ((t : ℕ) → k t ≡ max (f t) (g t)) → First-largest f n p → First-largest g n q → g q ≤ f p → ((t : ℕ) → t < p → g t < f p) → First-largest k n p
 leads {p} e F G less before =
     record {

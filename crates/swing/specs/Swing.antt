@@ -1,6 +1,6 @@
--- How far a card's curve swings: how far what the card reads at the whole minutes of a gap goes below the lower
--- and above the higher of the gap's two knots, at which minute first so far, and which gap goes furthest.
--- No document asks for it; a load was lost to it. Assumes nothing.
+-- How far a card's curve swings: how far what the card reads at the whole minutes of a gap goes below the
+-- lower and above the higher of the gap's two knots, at which minute first so far, and which gap goes
+-- furthest. No document asks for it; a load was lost to it. Assumes nothing.
 use Prim.Native.Nat.{ℕ, zero, suc, _+_, _-_, min, max}
 use mathlib.Core.Bool.{cond}
 use lib.Dec.{ltb}

@@ -1,7 +1,7 @@
 // How far a card's curve swings beyond its knots: gap by gap, what is read at its whole minutes beside the
-// ordinates of its two knots. The card is tested and decoded once, and every minute between two knots read once;
-// at a knot the card reads the knot's own ordinate. The public function that takes bytes asks nothing of its
-// caller.
+// ordinates of its two knots. The card is tested and decoded once, and every minute between two knots read
+// once; at a knot the card reads the knot's own ordinate. The public function that takes bytes asks nothing
+// of its caller.
 use answer::Judged;
 use decode::Card;
 use opened::Opened;
@@ -20,8 +20,8 @@ ghost use Rattle.card.specs.Answers.{own};
 ghost use Rattle.swing.specs.Swing.{surplus, below, above, gap-swing, furthest, first-minute, swung, further, wider, widest-of};
 
 // How far the curve of a card goes beyond the knots of the gap that goes furthest: the gap's left knot, the
-// first minute at which the curve is so far beyond, and how far it goes below the lower and above the higher of
-// the gap's two knots. Zeros behind a refusal.
+// first minute at which the curve is so far beyond, and how far it goes below the lower and above the higher
+// of the gap's two knots. Zeros behind a refusal.
 #[repr(C)]
 pub struct Swung {
     pub number: u32,

@@ -1,11 +1,11 @@
--- `swing::gap_on` meets its contract: a loop over the minutes between the knots, that keeps what was reached to
--- either side. Assumes nothing.
-use Prim.Native.Nat.{ℕ, _+_, _-_, _≤_, _<_, _^_}
-use mathlib.Core.Path.{_≡_, refl, sym, ap, _∙_}
+-- `swing::gap_on` meets its contract: a loop over the minutes between the knots, that keeps what was reached
+-- to either side. Assumes nothing.
+use Prim.Native.Nat.{ℕ, _+_, _-_, _<_, _^_}
+use mathlib.Core.Path.{_≡_, ap, _∙_}
 use mathlib.Core.List.{List}
 use native.Mathlib.Omega.{arith}
 use lib.IntN.{pos}
-use lib.ListN.{length, getD}
+use lib.ListN.{getD}
 use mir.Syntax.{w16, w32, w64}
 use mir.Val.{toZ}
 use mir.Facts.{toZ-ofZ, toZ-pos}
@@ -16,7 +16,7 @@ use Rattle.lists.specs.Lists.{In-place, curve-of}
 use Rattle.lists.proofs.ByGap.{curve-laid, minute-laid, curve-reads}
 use Rattle.swing.specs.declared.Reach.{Reach}
 use Rattle.swing.specs.Swing.{below-at, above-at}
-use Rattle.swing.proofs.Peak.{First-largest, peak-is, reached}
+use Rattle.swing.proofs.Peak.{peak-is, reached}
 use Rattle.swing.proofs.Gaps.{wide, place, low-start, high-start, low-on, high-on, gap-reached}
 use Rattle.swing.proofs.gap_on.Statement.{statement}
 use Rattle.swing.proofs.gap_on.Tie as tie

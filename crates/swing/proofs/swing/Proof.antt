@@ -1,11 +1,10 @@
 -- `swing::swing` meets its contract: refused, zeros; accepted, the opened card's gap that goes furthest.
 -- Assumes nothing.
-use mathlib.Core.Path.{_≡_, sym, ap, _∙_}
+use mathlib.Core.Path.{_≡_}
 use denote.Ref.{now}
 use native.Mathlib.Omega.{arith}
 use borrow.Author.Needs.{needs}
 use Rattle.answer.specs.Answer.{accepted}
-use Rattle.answer.specs.Judge.{verdict-of}
 use Rattle.answer.proofs.Chain.{step-refused, step-accepts}
 use Rattle.curve.specs.Kind.{quintic}
 use Rattle.curve.proofs.Accepted.{good}
