@@ -153,7 +153,7 @@ off s a =
           let v = table-accepted t same zero in
           (on-its-card s a tables v i l, λ r again there. in-table s a tables v i l (r .promised ∙ ap₂ read-off again there));
       table-counts = λ t same zero. table-counted s a (table-of t same) (table-accepted t same zero);
-      swings = λ w same zero. swings s a (w .promised ∙ ap (λ s. swung (own s) (card-of s)) same);
+      swings = λ w same. swings s a (w .promised ∙ ap (λ s. swung (own s) (card-of s)) same);
       jumps = of-card s a .jumps;
     }
 

@@ -82,7 +82,7 @@ module _ (s : List ℕ) (a : own s ≡ accepted) where
   goes : (r : A-reading) → reading-bytes r ≡ s → (i t : ℕ) → On-gap c (minute r) i t → beyond c i r ≤ Swing.furthest (gap-swing c i)
   goes r same i t on = let f = first-furthest c i in omega (arith, beyond-is r same i t on, f .is .largest t (on .to), f .far)
 
-  pub swings-so : Swings s (swung accepted c)
+  swings-so : Swings s (swung accepted c)
   unfolding swung gap-swing Swing.furthest
   swings-so =
       record {
@@ -102,5 +102,6 @@ module _ (s : List ℕ) (a : own s ≡ accepted) where
         first-there = λ r same t on l. omega (arith, beyond-is r same j t on, first .is .first t (omega (arith, on .from, first .minute)), first .far);
       }
 
-  pub swings : {w : Swung} → w ≡ swung (own s) c → Swings s w
-  swings e = subst (Swings s) (sym (e ∙ ap (λ v. swung v c) a)) swings-so
+  pub swings : {w : Swung} → w ≡ swung (own s) c → (w .number ≡ 0) × Swings s w
+  unfolding swung
+  swings e = let is = e ∙ ap (λ v. swung v c) a in (ap (λ w. w .number) is, subst (Swings s) (sym is) swings-so)

@@ -308,7 +308,7 @@ pub record Off (s : List ℕ) : Type 0 where
   pub table-counts : (t : A-table) → table-bytes t ≡ s → t .answer .number ≡ 0 →
       t .answer .count ≡ min (length (lists-for t .values)) (knot (card-of s) (knots (card-of s) - 1) .x + 1 - from t)
   -- and so beside the knots: the gap whose readings go furthest beyond its two knots
-  pub swings : (c : A-swing) → swing-bytes c ≡ s → c .answer .number ≡ 0 → Swings s (c .answer)
+  pub swings : (c : A-swing) → swing-bytes c ≡ s → (c .answer .number ≡ 0) × Swings s (c .answer)
   -- "third and fourth derivatives jump by no more than is allowed"
   pub jumps : (i : ℕ) → i + 2 < knots (card-of s) → (o : Order) → T (quintic .asks inner o) →
       Jump-within quintic o (knot (card-of s) i) (knot (card-of s) (i + 1)) (knot (card-of s) (i + 2))
