@@ -47,7 +47,7 @@
    memcpy and memset in it.
 
                            kaihveto.c   archive              kaihveto.c   archive
-     kaihveto_mean                256       128   read            5,120     4,096
+     kaihveto_mean                256       128   read, swing     5,120     4,096
      kaihveto_write             1,024       512   reading         5,120     4,096
      kaihveto_check             4,096     3,072   table           6,144     4,096
      kaihveto_book_find         4,096     3,072   fit, fit_ends  10,240     8,192
@@ -55,9 +55,9 @@
 
    Time. A reading tests the whole card every time and only then looks up the minute: some 1 to 2 microseconds at 64 knots
    (docs/FIGURES.md, "Speed"). A controller that reads once a minute needs to keep nothing but the card's bytes. A table tests
-   the card once and then reads minute after minute. A controller that keeps the hall's book instead finds its room's card with
-   kaihveto_book_find, which goes over the book's records and tests that one card, and hands book + start and length to
-   kaihveto_reading. */
+   the card once and then reads minute after minute, and so does the swing, through the whole card. A
+   controller that keeps the hall's book instead finds its room's card with kaihveto_book_find, which goes over
+   the book's records and tests that one card, and hands book + start and length to kaihveto_reading. */
 
 #ifndef KAIHVETO_H
 #define KAIHVETO_H
@@ -74,6 +74,8 @@ extern "C" {
    input gets another answer. MINOR rises where something is added and all else stays. kaihveto_version() gives the library's own
    version, 65536 times MAJOR plus MINOR: where it is not KAIHVETO_VERSION, the library and this header are of two states of the
    sources, and no other function is to be called.
+
+   5.2: kaihveto_swing is added.
 
    5.1: kaihveto_version is added, and kaihveto.c, which is the library for every processor.
 
@@ -96,7 +98,7 @@ extern "C" {
    2.0: kaihveto_mean answers the minute in the log's middle, where 1.2 answered the log's first, and has the refusal 19. Cards
    that were made with the first minutes lead the rooms by half a log, and are to be made anew. */
 #define KAIHVETO_VERSION_MAJOR 5
-#define KAIHVETO_VERSION_MINOR 1
+#define KAIHVETO_VERSION_MINOR 2
 #define KAIHVETO_VERSION (65536u * KAIHVETO_VERSION_MAJOR + KAIHVETO_VERSION_MINOR)
 
 uint32_t kaihveto_version(void);
@@ -286,6 +288,31 @@ kaihveto_table_answer kaihveto_table(const uint8_t *card, size_t card_length, ui
                                      int32_t *values, size_t values_length,
                                      int32_t *slopes, size_t slopes_length,
                                      int32_t *curvatures, size_t curvatures_length);
+
+/* How far a card's curve swings beyond its knots. In a gap, between two neighbouring knots, the curve may go
+   below the lower of their two ordinates and above the higher one. A gap's two numbers say how far it does,
+   in hundredths: of what kaihveto_reading gives for value at the gap's minutes, both knots' among them, the
+   most that one lies below the lower ordinate and the most that one lies above the higher, 0 where none does.
+   The answer is of the gap that goes furthest to either side, which is the one whose larger number is the
+   largest, and the first of such gaps where there are several: its left knot, its two numbers, and the first
+   of its minutes at which the value is so far beyond as the larger of the two says, on whichever side. Where
+   the curve stays within its knots everywhere this is knot 0 with its minute, and 0 for both numbers.
+
+   A sound card may swing: nothing is refused for it. But a curve that goes far beyond its knots goes where
+   nobody has set a point, as a rule beside a knot that was written down wrong. To warn of it where one of the
+   two numbers is above 100, which is one percent, is sensible, once for each card that is loaded: knot and
+   minute say where to look. Every minute of the card is read for it.
+   Refusals: those of kaihveto_check. Nothing is written. */
+typedef struct {
+    uint32_t number;
+    uint32_t place;
+    uint32_t knot;
+    uint32_t minute;
+    uint32_t below;
+    uint32_t above;
+} kaihveto_swing_answer;
+
+kaihveto_swing_answer kaihveto_swing(const uint8_t *card, size_t card_length);
 
 /* Fits a card's own knots anew, into two lists of one length: on acceptance the first n places of each, n being the card's
    number of knots, and no other. The ends have the card's codes, and a number that a code gives is the card's own there. The
