@@ -187,6 +187,13 @@ int main(void) {
             drop(a), drop(b), drop(c), drop(e);
             break;
         }
+        case 's': {
+            a = list(1);
+            kaihveto_swing_answer r = kaihveto_swing(a.first, a.length);
+            give_answer(&r, sizeof r);
+            drop(a);
+            break;
+        }
         case 'a': {
             e = list(1), c = list(4), d = list(4);
             kaihveto_refit_answer r = kaihveto_refit(e.first, e.length, c.first, c.length, d.first, d.length);

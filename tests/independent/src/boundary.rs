@@ -65,6 +65,18 @@ pub struct Tabled {
     pub count: u32,
 }
 
+/// What kaihveto_swing answers.
+#[repr(C)]
+#[derive(Clone, Copy, Debug, Default, PartialEq, Eq)]
+pub struct Swing {
+    pub number: u32,
+    pub place: u32,
+    pub knot: u32,
+    pub minute: u32,
+    pub below: u32,
+    pub above: u32,
+}
+
 /// What kaihveto_refit answers.
 #[repr(C)]
 #[derive(Clone, Copy, Debug, Default, PartialEq, Eq)]
@@ -122,7 +134,7 @@ pub struct End {
 
 #[cfg(archive)]
 mod linked {
-    use super::{Change, Checked, Fitted, Mean, Mended, Reading, Refitted, Spot, Tabled, Used, Written};
+    use super::{Change, Checked, Fitted, Mean, Mended, Reading, Refitted, Spot, Swing, Tabled, Used, Written};
 
     extern "C" {
         pub fn kaihveto_mean(first_minute: u16, log: *const u8, log_length: usize) -> Mean;
@@ -191,6 +203,7 @@ mod linked {
             curvatures: *mut i32,
             curvatures_length: usize,
         ) -> Tabled;
+        pub fn kaihveto_swing(card: *const u8, card_length: usize) -> Swing;
         pub fn kaihveto_refit(
             card: *const u8,
             card_length: usize,
@@ -332,6 +345,10 @@ pub fn table(card: &[u8], from: u16, values: &mut [i32], slopes: &mut [i32], cur
         curvatures.as_mut_ptr(),
         curvatures.len(),
     ))
+}
+
+pub fn swing(card: &[u8]) -> Swing {
+    call!(kaihveto_swing(card.as_ptr(), card.len()))
 }
 
 pub fn refit(card: &[u8], slopes: &mut [i32], curvatures: &mut [i32]) -> Refitted {

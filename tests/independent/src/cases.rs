@@ -175,6 +175,81 @@ fn p7() {
     assert_eq!(reading(&card, 3).unwrap().value, 2);
 }
 
+/// The swing's knot, minute, below and above.
+fn swung(card: &[u8]) -> (u32, u32, u32, u32) {
+    let Swing { knot, minute, below, above } = swing(card).unwrap();
+    (knot, minute, below, above)
+}
+
+/// The cubic x(x − a)(x − b)/2 at the minutes 0, 8 and 16, with both ends given; and the same turned over.
+fn cubics(a: i32, b: i32) -> [Vec<u8>; 2] {
+    let minutes = [0, 8, 16];
+    let ordinates = [0, 8, 16].map(|x: i32| (x * (x - a) * (x - b) / 2) as i16);
+    let slopes = [0, 8, 16].map(|x| 2048 * (3 * x * x - 2 * (a + b) * x + a * b));
+    let curvatures = [0, 8, 16].map(|x| 4096 * (3 * x - a - b));
+    let card = |sign: i32| {
+        let (slopes, curvatures) = (slopes.map(|m| sign * m), curvatures.map(|c| sign * c));
+        card_bytes(&minutes, &ordinates.map(|y| sign as i16 * y), &slopes, &curvatures, 1, 1)
+    };
+    [card(1), card(-1)]
+}
+
+#[test]
+fn swings_by_hand() {
+    // Beside 0 and 8 the curve is -14, -56, -65, -45 at the minutes 4 to 7, and the same at 28 to 25.
+    assert_eq!(swung(&table_3_card()), (0, 6, 65, 0));
+    // From rest it is below 0 by 16 at 9, above 500 by 25 at 17, and below 0 by 69, 109, 113 and 78 from 25
+    // on.
+    assert_eq!(swung(&card_of(AT_REST, [1, 0])), (3, 27, 113, 0));
+    // x(x - 4)(x - 8)/2 is 12 at 2 and -12 at 6, and rises from 8 on: both sides alike, and the first of the
+    // two minutes.
+    assert_eq!(cubics(4, 8).map(|card| swung(&card)), [(0, 2, 12, 12); 2]);
+    // x(x - 3)(x - 8)/2 is 7 at 1 and -18 at 6, x(x - 5)(x - 8)/2 is 18 at 2 and -7 at 7.
+    assert_eq!(cubics(3, 8).map(|card| swung(&card)), [(0, 6, 18, 7), (0, 6, 7, 18)]);
+    assert_eq!(cubics(5, 8).map(|card| swung(&card)), [(0, 2, 7, 18), (0, 2, 18, 7)]);
+    // x(x - 8)(x - 16)/2 is 97.5 at 3, which is 98, and -97.5 at 13: two gaps alike, the first above or
+    // below.
+    assert_eq!(cubics(8, 16).map(|card| swung(&card)), [(0, 3, 0, 98), (0, 3, 98, 0)]);
+}
+
+/// The parabola through 0 and 2 at this height, half a hundredth higher at 1: a half is rounded to even
+/// before it is measured.
+#[test]
+fn a_swing_is_of_readings() {
+    let parabola = |y: i16| card_bytes(&[0, 2, 4], &[y, y, y - 4], &[4096, -4096, -12_288], &[-4096; 3], 0, 0);
+    assert_eq!([0, 1, 2, -1].map(|y| swung(&parabola(y))), [(0, 0, 0, 0), (0, 1, 0, 1), (0, 0, 0, 0), (0, 1, 0, 1)]);
+}
+
+#[test]
+fn a_curve_within_its_knots_does_not_swing() {
+    assert_eq!(swung(&line_of(3)), (0, 0, 0, 0));
+    assert_eq!(swung(&card_bytes(&[5, 7, 9], &[0, 1, 2], &[2048; 3], &[0; 3], 0, 0)), (0, 5, 0, 0));
+    // A gap of one minute has no minute between its knots.
+    assert_eq!(swung(&card_bytes(&[7, 8, 9], &[128, 0, 128], &[-1_048_576, 0, 1_048_576], &[1_048_576; 3], 0, 0)), (0, 7, 0, 0));
+}
+
+/// Knots of 20,000 at minutes 60 apart, with the steepest slopes and the greatest curvatures: 53,600 in the
+/// middle, which no value is beyond (`header`).
+#[test]
+fn a_swing_may_be_33_600() {
+    let limit = CARD_NUMBER_LIMIT;
+    let turned = |sign: i32| {
+        let (slopes, curvatures) = ([limit, -limit, 585_462].map(|m| sign * m), [limit, limit, -96_765].map(|c| sign * c));
+        card_bytes(&[100, 160, 162], &[20_000, 20_000, 19_969].map(|y| sign as i16 * y), &slopes, &curvatures, 1, 1)
+    };
+    assert_eq!(swung(&turned(1)), (0, 130, 0, 33_600));
+    assert_eq!(swung(&turned(-1)), (0, 130, 33_600, 0));
+}
+
+#[test]
+fn the_swing_has_the_cards_refusals() {
+    let card = table_3_card();
+    assert_eq!(number_and_place(swing(&card[..93])), (14, 90));
+    assert_eq!(number_and_place(swing(&card_bytes(&[0, 1], &[0; 2], &[0; 2], &[0; 2], 0, 0))), (1, 0));
+    assert_eq!(number_and_place(swing(&card_bytes(&MINUTES, &ORDINATES, &SLOPES, &[0; 5], 0, 3))), (15, 1));
+    assert_eq!(number_and_place(swing(&card_bytes(&MINUTES, &ORDINATES, &SLOPES, &[0; 5], 0, 0))), (10, 0));
+}
+
 /// Minute after minute, a knot at every second one, on one line.
 fn line_of(knots: usize) -> Vec<u8> {
     let minutes: Vec<u16> = (0..knots as u16).map(|i| 2 * i).collect();

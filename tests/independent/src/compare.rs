@@ -230,8 +230,10 @@ pub fn reading(tally: &mut Tally, card: &[u8], minute: u16) {
     compare_reading(tally, card, minute, || reference::reading(card, minute));
 }
 
-/// Every minute of a card, one before, one behind, and the two ends of all minutes.
+/// Every minute of a card, one before, one behind, and the two ends of all minutes; and how far its curve
+/// swings.
 pub fn readings(tally: &mut Tally, card: &[u8]) {
+    swing(tally, card);
     let Ok(sound) = reference::check(card) else {
         reading(tally, card, 0);
         return;
@@ -259,6 +261,18 @@ pub fn table(tally: &mut Tally, card: &[u8], from: u16, lengths: [usize; 3]) {
     };
     let input = || format!("from {from} off {} into {lengths:?}", hex(card));
     tally.count("table", wanted_answer.number, answer, wanted_answer, ours == wanted, input);
+}
+
+/// How far a card's curve swings.
+pub fn swing(tally: &mut Tally, card: &[u8]) {
+    if !tally.takes_the_next() {
+        return;
+    }
+    let wanted = match reference::swing(card) {
+        Ok(reference::Swing { knot, minute, below, above }) => boundary::Swing { knot, minute, below, above, ..Default::default() },
+        Err(Refusal { number, place }) => boundary::Swing { number, place, ..Default::default() },
+    };
+    tally.count("swing", wanted.number, boundary::swing(card), wanted, true, || hex(card));
 }
 
 /// A card fitted anew, into lists of these lengths.

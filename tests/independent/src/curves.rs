@@ -334,6 +334,85 @@ pub fn carried(random: &mut Random, n: usize) -> Option<Numbers> {
     Some(Numbers { sheet, slopes, curvatures, left: 1, right: 1 })
 }
 
+/// Two knots with these numbers, and the curve carried on from them to a third, where it keeps to its limits.
+fn carried_from(left: Knot, right: Knot, x: i128, y: i128) -> Option<Numbers> {
+    let (m, c) = carried_on(left, right, x, y);
+    let third = Knot { x, y, m, c };
+    let (ordinate, card) = (i128::from(ORDINATE_LIMIT), i128::from(CARD_NUMBER_LIMIT));
+    let sheet = Sheet { minutes: vec![], ordinates: vec![] };
+    let mut numbers = Numbers { sheet, slopes: vec![], curvatures: vec![], left: 1, right: 1 };
+    for knot in [left, right, third] {
+        if knot.y.abs() > ordinate || knot.m.abs() > card || knot.c.abs() > card {
+            return None;
+        }
+        numbers.knot(knot.x as u16, knot.y as i16, knot.m as i32, knot.c as i32);
+    }
+    Some(numbers)
+}
+
+/// Three knots of which the first gap's curve is alike on both sides of the gap's middle, turned over there:
+/// what it does above its knots it does below them.
+pub fn turned_over_in_a_gap(random: &mut Random) -> Option<Numbers> {
+    let share = random.pick(&[1, 8, 64, 512, 4096]);
+    let mut large = |limit: i64| i128::from(random.within(-limit / share, limit / share));
+    let (y, rise, m, c) = (large(ORDINATE_LIMIT.into()), large(2000), large(CARD_NUMBER_LIMIT.into()), large(CARD_NUMBER_LIMIT.into()));
+    let widest = random.pick(&[2, 4, 12, WIDEST_GAP.into()]);
+    let (h, next) = (random.within(1, widest), random.within(1, widest));
+    let start = random.pick(&[0, 700, i64::from(u16::MAX) - h - next]);
+    let left = Knot { x: start.into(), y, m, c };
+    let right = Knot { x: (start + h).into(), y: y + rise, m, c: -c };
+    carried_from(left, right, (start + h + next).into(), y + i128::from(random.within(-40, 40)))
+}
+
+/// Three knots of which the first gap's curve goes as far from its knots as the limits of slopes and
+/// curvatures let it, upwards or downwards. The curve carried on keeps to them on a gap of 2 with a small
+/// fall or rise.
+pub fn furthest_from_its_knots(random: &mut Random) -> Option<Numbers> {
+    let sign = random.pick(&[1, -1]);
+    let (y, limit) = (random.pick(&[i128::from(ORDINATE_LIMIT), 0, -i128::from(ORDINATE_LIMIT)]), sign * i128::from(CARD_NUMBER_LIMIT));
+    let h = i128::from(random.pick(&[WIDEST_GAP, WIDEST_GAP, WIDEST_GAP - 1, WIDEST_GAP / 2]));
+    let left = Knot { x: 100, y, m: limit, c: limit };
+    let right = Knot { x: 100 + h, y, m: -limit, c: limit };
+    carried_from(left, right, 100 + h + 2, y + sign * i128::from(random.within(-80, 20)))
+}
+
+/// A card on gaps and ordinates that are alike on both sides of its middle, turned over there or not, fitted
+/// between free ends: its gaps swing in pairs.
+pub fn mirrored(random: &mut Random, n: usize) -> Option<Numbers> {
+    let turned = random.once_in(2);
+    let mut gaps = gaps(random, n - 1);
+    let steep = random.pick(&[2, 30, 400]);
+    let mut ordinates: Vec<i16> = (0..n).map(|_| random.within(-steep, steep) as i16).collect();
+    for i in 0..n / 2 {
+        ordinates[n - 1 - i] = if turned { -ordinates[i] } else { ordinates[i] };
+        gaps[n - 2 - i] = gaps[i];
+    }
+    if turned && n % 2 == 1 {
+        ordinates[n / 2] = 0;
+    }
+    let mut minutes = vec![random.within(0, 1000) as u16];
+    for i in 1..n {
+        minutes.push(minutes[i - 1] + gaps[i - 1]);
+    }
+    let (mut slopes, mut curvatures) = (vec![0; n], vec![0; n]);
+    reference::fit_ends(&minutes, &ordinates, &mut slopes, &mut curvatures, FREE, FREE).ok()?;
+    Some(Numbers { sheet: Sheet { minutes, ordinates }, slopes, curvatures, left: 0, right: 0 })
+}
+
+/// Three knots at even minutes on a parabola, which has a whole number or a half at every minute.
+pub fn parabola(random: &mut Random) -> Numbers {
+    let (start, tilt, bend) = (random.within(-9, 9), random.within(-12, 12), random.within(-4, 4));
+    let mut x = 0;
+    let sheet = Sheet { minutes: vec![], ordinates: vec![] };
+    let (left, right) = (random.below(3) as u16, random.below(3) as u16);
+    let mut numbers = Numbers { sheet, slopes: vec![], curvatures: vec![], left, right };
+    for _ in 0..3 {
+        numbers.knot(x as u16, (start + tilt * x + bend * x * x / 2) as i16, (4096 * (tilt + bend * x)) as i32, (4096 * bend) as i32);
+        x += random.pick(&[2, 4, 6]);
+    }
+    numbers
+}
+
 /// Steps one slope or curvature of an accepted card away until the card is refused: the last card accepted and the
 /// first refused.
 pub fn about_the_allowance(numbers: &Numbers, place: usize, slope: bool, step: i32) -> (Numbers, Numbers) {

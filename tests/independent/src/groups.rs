@@ -4,7 +4,7 @@ use crate::books;
 use crate::compare::{self, Tally};
 use crate::curves::{self, Numbers, Sheet, Turn};
 use crate::random::Random;
-use crate::reference::{self, card_size, End, CARD_NUMBER_LIMIT, FREE, HOLE, LONGEST_LOG, MOST_KNOTS, ORDINATE_LIMIT, WIDEST_GAP};
+use crate::reference::{self, card_size, End, Swing, CARD_NUMBER_LIMIT, FREE, HOLE, LONGEST_LOG, MOST_KNOTS, ORDINATE_LIMIT, WIDEST_GAP};
 use std::collections::BTreeMap;
 use std::time::Instant;
 
@@ -199,8 +199,12 @@ fn lengths(tally: &mut Tally, random: &mut Random) {
     }
 }
 
-/// One spoilt or sound card, by all that reads cards.
+/// One spoilt or sound card, by all that reads cards; by the swing, which reads every minute, where it has
+/// few knots.
 fn card(tally: &mut Tally, random: &mut Random, bytes: &[u8]) {
+    if bytes.len() < card_size(12) {
+        compare::swing(tally, bytes);
+    }
     compare::check(tally, bytes);
     let places = random.pick(&[0, 2, 3, 5, 63, 64, 66]);
     compare::read(tally, bytes, [places; 4]);
@@ -506,6 +510,81 @@ fn tables(tally: &mut Tally, random: &mut Random) {
     }
 }
 
+/// What the gaps of accepted cards did, each kind by its name.
+#[derive(Default)]
+struct Kinds(BTreeMap<&'static str, u64>);
+
+impl Kinds {
+    fn count(&mut self, numbers: &Numbers) {
+        let Ok(card) = reference::check(&numbers.bytes()) else { return };
+        let gaps: Vec<Swing> = (0..card.minutes.len() - 1).map(|knot| reference::swing_of_gap(&card, knot)).collect();
+        let largest = gaps.iter().map(|gap| gap.larger()).max().unwrap_or(0);
+        let furthest: Vec<&Swing> = gaps.iter().filter(|gap| gap.larger() == largest).collect();
+        let (first, several) = (furthest[0], furthest.len() > 1);
+        let met = [
+            ("within", largest == 0),
+            ("one gap below", !several && first.below > first.above),
+            ("one gap above", !several && first.below < first.above),
+            ("several gaps to one side", largest > 0 && several && furthest.iter().all(|gap| gap.below == first.below)),
+            ("several gaps, below first", several && furthest[1].above == largest && first.above < largest),
+            ("several gaps, above first", several && furthest[1].below == largest && first.below < largest),
+            ("both sides, more below", first.below > first.above && first.above > 0),
+            ("both sides, more above", first.above > first.below && first.below > 0),
+            ("both sides alike", largest > 0 && first.below == first.above),
+            ("the last gap", first.knot as usize == gaps.len() - 1),
+            ("the furthest there is", largest == 33_600),
+        ];
+        for (kind, met) in met {
+            *self.0.entry(kind).or_default() += u64::from(met);
+        }
+    }
+}
+
+/// How far the curves of cards swing: of fitted cards on many gaps, of cards with the largest numbers, with
+/// gaps that swing alike, with swings to both sides, with values at a half, and of cards that are refused.
+fn swings(tally: &mut Tally, random: &mut Random) {
+    for n in 3..=MOST_KNOTS {
+        for [left, right] in mixes() {
+            if n < 9 || n == MOST_KNOTS || random.once_in(6) {
+                let numbers = curves::fitted(random, n, left, right);
+                compare::swing(tally, &numbers.bytes());
+                compare::swing(tally, &at_the_last_minute(&numbers).bytes());
+            }
+        }
+    }
+    for gaps in [1, 2, 3, 15, 30, 59, 60].iter().flat_map(|gap| [1, 2, 3, 15, 30, 59, 60].map(|other| [*gap, other, *gap])) {
+        for [left, right] in mixes() {
+            let minutes = minutes_after(random.within(0, 60_000) as u16, &gaps);
+            compare::swing(tally, &curves::fitted_at(random, &minutes, left, right).bytes());
+        }
+    }
+    let mut kinds = Kinds::default();
+    for turn in 0..3_000 {
+        let made = [
+            if turn % 2 == 0 { curves::large_and_sound(random) } else { curves::carried(random, 3 + turn / 2 % 3) },
+            curves::turned_over_in_a_gap(random),
+            curves::mirrored(random, 3 + turn % 6),
+            curves::furthest_from_its_knots(random),
+            Some(curves::parabola(random)),
+        ];
+        for numbers in made.into_iter().flatten() {
+            kinds.count(&numbers);
+            compare::swing(tally, &numbers.bytes());
+        }
+    }
+    for (kind, times) in kinds.0 {
+        assert!(times > 0, "no card of the kind: {kind}");
+    }
+    for _ in 0..4_000 {
+        let n = random.within(3, 6) as usize;
+        let mut numbers = curves::extreme(random, n);
+        if random.once_in(3) {
+            curves::spoil(random, &mut numbers.sheet);
+        }
+        compare::swing(tally, &numbers.bytes());
+    }
+}
+
 /// A card fitted anew, into lists of every useful length, equal and not.
 fn refit_into_all(tally: &mut Tally, bytes: &[u8], n: usize) {
     for places in [0, n - 1, n, n + 1, 66] {
@@ -712,7 +791,7 @@ fn mends(tally: &mut Tally, random: &mut Random) {
 
 /// The numbers that the comparisons of each function have to meet, so that inputs which no longer reach one of them are seen. 8 is
 /// missing, which no input is known to meet, and the fits' 10, which none of these does.
-const TO_BE_MET: [(&str, &[u32]); 12] = [
+const TO_BE_MET: [(&str, &[u32]); 13] = [
     ("mean", &[0, 16, 12, 13, 23, 19]),
     ("fit", &[0, 3, 1, 2, 4, 5, 6, 9]),
     ("fit_ends", &[0, 3, 1, 2, 15, 4, 5, 6, 7, 9]),
@@ -721,6 +800,7 @@ const TO_BE_MET: [(&str, &[u32]); 12] = [
     ("read", &[0, 3, 14, 1, 2, 15, 4, 5, 6, 9, 10, 26]),
     ("reading", &[0, 14, 1, 2, 15, 4, 5, 6, 9, 10, 11]),
     ("table", &[0, 3, 14, 15, 4, 5, 6, 9, 10, 11]),
+    ("swing", &[0, 14, 1, 2, 15, 4, 5, 6, 9, 10]),
     ("refit", &[0, 3, 14, 1, 2, 15, 4, 5, 6, 9, 10, 26]),
     ("mend", &[0, 3, 1, 2, 4, 5, 6, 17, 18, 9]),
     ("book_find", &[0, 14, 22, 20, 1, 2, 15, 4, 5, 6, 9, 10]),
@@ -745,7 +825,7 @@ type Group = fn(&mut Tally, &mut Random);
 /// whether nothing differed and, of all questions, nothing was left unmet: a part may miss a number that few
 /// of them meet.
 pub fn run(part: Option<u64>) -> bool {
-    let groups: [(&str, Group); 19] = [
+    let groups: [(&str, Group); 20] = [
         ("logs", logs),
         ("fits", fits),
         ("given numbers", given),
@@ -765,6 +845,7 @@ pub fn run(part: Option<u64>) -> bool {
         ("gaps of the weight sheet", on_the_weight_sheet),
         ("cards that start at rest", at_rest),
         ("looks for a gap", looks),
+        ("how far curves swing", swings),
     ];
     let mut tally = Tally::new(part);
     for (seed, (name, group)) in groups.iter().enumerate() {
