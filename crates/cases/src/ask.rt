@@ -21,6 +21,15 @@ fn reading(minute: u16, card: &[u8]) {
     print::counted(b"; looks", reading.looks);
 }
 
+fn swing(card: &[u8]) {
+    let swung = swing::swing(card);
+    print::verdict(b"swing", swung.number, swung.place);
+    print::counted(b"; knot", swung.knot);
+    print::counted(b"; minute", swung.minute);
+    print::counted(b"; below", swung.below);
+    print::counted(b"; above", swung.above);
+}
+
 fn checked(word: &[u8], checked: card::Checked) {
     print::verdict(word, checked.number, checked.place);
     print::counted(b"; knots", checked.knots);
@@ -138,6 +147,7 @@ pub(crate) fn of_bytes(kind: u16, minute: u16, list: &[u8]) {
         1 => mean(minute, list),
         2 => reading(minute, list),
         3 => check(list),
+        4 => swing(list),
         _ => {
             io::write_all(1, list);
         }
@@ -156,15 +166,15 @@ pub(crate) fn of_knots(
     list: &mut [u8],
 ) {
     match kind {
-        4 => {
+        5 => {
             fit(minutes, ordinates, slopes, curvatures);
             return;
         }
-        5 => {
+        6 => {
             fit_codes(left, right, minutes, ordinates, slopes, curvatures, list);
             return;
         }
-        6 => {
+        7 => {
             write(left, right, minutes, ordinates, slopes, curvatures, list);
             return;
         }

@@ -73,7 +73,7 @@ pub(crate) fn question(kind: u16, body: &mut [u8]) {
         return;
     }
     let left = bytes::read_u16(body, 8);
-    if kind < 4 {
+    if kind < 5 {
         ask::of_bytes(kind, left, &body[12..]);
         return;
     }
@@ -93,7 +93,7 @@ pub(crate) fn question(kind: u16, body: &mut [u8]) {
     let mut ordinates = ordinates(body, behind_minutes);
     let mut slopes = numbers(body, behind_ordinates);
     let mut curvatures = numbers(body, behind_slopes);
-    if kind == 7 {
+    if kind == 8 {
         ask::read(
             &body[rest..],
             &mut minutes[..x],

@@ -185,6 +185,12 @@ impl Asked {
         format!("{}; value {value}; slope {slope}; curvature {curvature}; looks {looks}", verdict(&answer))
     }
 
+    fn swing(&self) -> String {
+        let answer = swing(&self.card);
+        let Swing { knot, minute, below, above } = answer.unwrap_or_default();
+        format!("{}; knot {knot}; minute {minute}; below {below}; above {above}", verdict(&answer))
+    }
+
     fn mend(&self) -> String {
         let [x, y, m, c] = self.places;
         let (minutes, mut ordinates) = (places_of(&self.minutes, x), places_of(&self.ordinates, y));
@@ -207,6 +213,7 @@ impl Asked {
             "check" => Ok(self.check()),
             "read" => Ok(self.read()),
             "reading" => Ok(self.reading()),
+            "swing" => Ok(self.swing()),
             "mend" => Ok(self.mend()),
             _ => Err(format!("nothing is asked by {word}")),
         }
