@@ -1,13 +1,20 @@
-/* Sees that library and header belong together. Fits document 01's Table 3 through the C header, without ends and then between
-   free ones, and writes its card each time; checks the free one, reads it back and takes readings off it; then a log's mean and a
-   log with too few good bytes, a sheet with two holes mended and put back, and a book of two rooms with a reading off the card that
-   it holds for one of them. What it prints is held against reads_a_card.expected. */
+/* Sees that library and header belong together. Fits document 01's Table 3 through the C header, without ends
+   and then between free ones, and writes its card each time, with the swing of both; checks the free one,
+   reads it back and takes readings off it; then a log's mean and a log with too few good bytes, a sheet with
+   two holes mended and put back, and a book of two rooms with a reading off the card that it holds for one of
+   them. What it prints is held against reads_a_card.expected. */
 
 #include <stdio.h>
 
 #include "kaihveto.h"
 
 #define KNOTS 5
+
+static void print_swing(const char *name, kaihveto_swing_answer swing)
+{
+    printf("%s: %u at %u, knot %u, minute %u, below %u, above %u\n", name, swing.number, swing.place, swing.knot,
+           swing.minute, swing.below, swing.above);
+}
 
 int main(void)
 {
@@ -40,6 +47,7 @@ int main(void)
            checked.right);
     kaihveto_refit_answer anew = kaihveto_refit(card, sizeof card, slopes, KNOTS, curvatures, KNOTS);
     printf("fitted anew: %u at %u, %u changed\n", anew.number, anew.place, anew.changed);
+    print_swing("swing", kaihveto_swing(card, sizeof card));
 
     fit = kaihveto_fit_ends(minutes, KNOTS, ordinates, KNOTS, slopes, KNOTS, curvatures, KNOTS, KAIHVETO_FREE, 0.0, 0.0,
                             KAIHVETO_FREE, 0.0, 0.0);
@@ -70,6 +78,8 @@ int main(void)
     printf("minute 33: %u at %u, value %d, slope %d, curvature %d, looks %u\n", reading.number, reading.place, reading.value,
            reading.slope, reading.curvature, reading.looks);
 
+    print_swing("swing", kaihveto_swing(card, sizeof card));
+    print_swing("swing a byte short", kaihveto_swing(card, sizeof card - 1));
     checked = kaihveto_check(card, sizeof card - 1);
     printf("a byte short: %u at %u, %u knots, ends %u and %u\n", checked.number, checked.place, checked.knots, checked.left,
            checked.right);

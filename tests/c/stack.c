@@ -47,6 +47,11 @@ static uint32_t table(void) {
     return r.count == MINUTES ? r.number : 1;
 }
 
+static uint32_t swing(void) {
+    kaihveto_swing_answer r = kaihveto_swing(card, sizeof card);
+    return r.below != 0 || r.above != 0 ? r.number : 1;
+}
+
 static uint32_t refit(void) {
     return kaihveto_refit(card, sizeof card, slopes, KNOTS, curvatures, KNOTS).number;
 }
@@ -104,6 +109,7 @@ int main(void) {
     good &= line("read", read_card);
     good &= line("reading", reading);
     good &= line("table", table);
+    good &= line("swing", swing);
     good &= line("refit", refit);
     good &= line("mend", mend);
     good &= kaihveto_fit(minutes, 3, ordinates, 3, slopes, 3, curvatures, 3).number == 0;
