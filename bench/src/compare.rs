@@ -28,6 +28,7 @@ fn same_fit(library: &Library, sheet: &Sheet, ends: [End; 2]) {
 
 fn same_card(library: &Library, bytes: &[u8]) {
     same(library, &("check", bytes), |by| by.check(bytes));
+    same(library, &("swing", bytes), |by| by.swing(bytes));
     let knots = bytes.len() / 16;
     for room in [knots, knots.saturating_sub(1), KNOTS] {
         same(library, &("read", room, bytes), |by| {

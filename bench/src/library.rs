@@ -3,7 +3,7 @@
 //! ask (`Functions`), and the library as one C compiler has made it, each function wrapped so that safe Rust can call it:
 //! a slice passes as its pointer and then its length, an answer comes back by value.
 
-pub use independent::boundary::{Change, Checked, End, Fitted, Mean, Reading, Refitted, Spot, Tabled as Counted, Written};
+pub use independent::boundary::{Change, Checked, End, Fitted, Mean, Reading, Refitted, Spot, Swing, Tabled as Counted, Written};
 
 /// Minutes and ordinates.
 pub type Knots<'a> = (&'a [u16], &'a [i16]);
@@ -18,6 +18,7 @@ pub trait Functions {
     fn read(&self, card: &[u8], minutes: &mut [u16], ordinates: &mut [i16], slopes: &mut [i32], curvatures: &mut [i32]) -> Checked;
     fn reading(&self, card: &[u8], minute: u16) -> Reading;
     fn table(&self, card: &[u8], from: u16, values: &mut [i32], slopes: &mut [i32], curvatures: &mut [i32]) -> Counted;
+    fn swing(&self, card: &[u8]) -> Swing;
     fn refit(&self, card: &[u8], slopes: &mut [i32], curvatures: &mut [i32]) -> Refitted;
     fn mend(&self, minutes: &[u16], ordinates: &mut [i16], slopes: &mut [i32], curvatures: &mut [i32], changes: &mut [Change]) -> Counted;
     fn book_find(&self, book: &[u8], room: u16) -> Spot;
@@ -63,6 +64,7 @@ pub struct Library {
     read: unsafe extern "C" fn(*const u8, usize, *mut u16, usize, *mut i16, usize, *mut i32, usize, *mut i32, usize) -> Checked,
     reading: unsafe extern "C" fn(*const u8, usize, u16) -> Reading,
     table: unsafe extern "C" fn(*const u8, usize, u16, *mut i32, usize, *mut i32, usize, *mut i32, usize) -> Counted,
+    swing: unsafe extern "C" fn(*const u8, usize) -> Swing,
     refit: unsafe extern "C" fn(*const u8, usize, *mut i32, usize, *mut i32, usize) -> Refitted,
     mend: unsafe extern "C" fn(*const u16, usize, *mut i16, usize, *mut i32, usize, *mut i32, usize, *mut Change, usize) -> Counted,
     book_find: unsafe extern "C" fn(*const u8, usize, u16) -> Spot,
@@ -178,6 +180,10 @@ impl Functions for Library {
                 curvatures.len(),
             )
         }
+    }
+
+    fn swing(&self, card: &[u8]) -> Swing {
+        unsafe { (self.swing)(card.as_ptr(), card.len()) }
     }
 
     fn refit(&self, card: &[u8], slopes: &mut [i32], curvatures: &mut [i32]) -> Refitted {

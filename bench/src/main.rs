@@ -215,6 +215,13 @@ fn main() {
     for (name, cards) in [("a minute of a table, gaps of 60", hours), ("a minute of a table, gaps of 20 to 60", cards)] {
         bench.line(name, mean_count(cards), INPUTS, |by| table_of(by, cards));
     }
+    for (name, cards) in [("a minute of a swing, gaps of 60", hours), ("a minute of a swing, gaps of 20 to 60", cards)] {
+        bench.line(name, mean_count(cards), INPUTS, |by| {
+            Box::new(|i| {
+                black_box(by.swing(black_box(&cards.bytes[i])));
+            })
+        });
+    }
     bench.line("fresh fit of a card of 64 knots", 1.0, INPUTS, |by| {
         let mut lists = ([0; KNOTS], [0; KNOTS]);
         Box::new(move |i| {
