@@ -63,6 +63,14 @@ fn shares_of(level: i64, rise: i64, bend: i64, t: i64, s: i64) -> Shares
     }
 }
 
+// s³ P(t) alone.
+fn value_share(level: i64, rise: i64, bend: i64, t: i64, s: i64) -> i64
+    requires { ⌜ Fair (by-powers level rise bend) t s ⌝ }
+    ensures { λ r. ⌜ r ≡ shares (by-powers level rise bend) t s .value ⌝ }
+{
+    s * s * s * ((bend * t + rise) * t + level)
+}
+
 // n / d, where it fits 32 bits.
 fn rounded(n: i64, d: u64) -> i32
     requires { ⌜ (0 < d) × (natAbs n < 2 ^ 63) ⌝ }
@@ -129,5 +137,19 @@ impl GapCurve {
             slope: rounded(n.slope, self.base),
             curvature: rounded(n.curvature, self.base),
         }
+    }
+
+    // The value alone of what is read there.
+    pub fn value_at(self, t: i64) -> i32
+        requires { ⌜ Laid self ⌝ }
+        requires { ⌜ In-gap (self .h) t ⌝ }
+        ensures { λ r. ⌜ r ≡ read-of self t .value ⌝ }
+    {
+        let s = self.h - t;
+        let left = self.left;
+        let right = self.right;
+        let a = value_share(left.level, left.rise, left.bend, t, s);
+        let b = value_share(right.level, right.rise, right.bend, s, t);
+        rounded(a + b, self.under)
     }
 }

@@ -49,6 +49,7 @@ use Rattle.parts.proofs.denominator.Reads as denominator
 use Rattle.reading.proofs.Reading.between.Reads as reading-between
 use Rattle.gap_curve.proofs.GapCurve.of.Reads as curve-of
 use Rattle.gap_curve.proofs.GapCurve.at.Reads as curve-reads
+use Rattle.gap_curve.proofs.GapCurve.value_at.Reads as curve-value
 use Rattle.jumps.proofs.jump.Reads as jump
 use Rattle.jumps.proofs.allowance.Reads as allowance
 use Rattle.jumps.proofs.Spans.of.Reads as spans-of
@@ -384,8 +385,8 @@ knots = (equation _ _, judgement _, judgement _, judgement _, judgement _, judge
 pub one-gap : Once mirrored.Post × Once sheet-of.Post × Once weights-of.Post × Once parts-of.Post × Once numerator.Post × Once denominator.Post × Once reading-between.Post
 one-gap = (equation _ _, equation _ _, equation _ _, equation _ _, equation _ _, equation _ _, equation _ _)
 
-pub gap-curve : Once curve-of.Post × Once curve-reads.Post
-gap-curve = (equation _ _, equation _ _)
+pub gap-curve : Once curve-of.Post × Once curve-reads.Post × Once curve-value.Post
+gap-curve = (equation _ _, equation _ _, equation _ _)
 
 pub two-gaps : Once jump.Post × Once allowance.Post × Once spans-of.Post × Once spans-none.Post × Once meet.Post
 two-gaps = (equation _ _, equation _ _, equation _ _, equation _ _, equation _ _)

@@ -111,8 +111,7 @@ fn gap_on(xs: &[u16], ys: &[i16], ms: &[i32], cs: &[i32], j: usize) -> GapSwing
     let mut t: u16 = 0;
     while t + 1 < h {
         t += 1;
-        let r = curve.at(t as i64);
-        let value = r.value;
+        let value = curve.value_at(t as i64);
         low = low.or(below(y, z, value), t);
         high = high.or(above(y, z, value), t);
     }

@@ -1,35 +1,25 @@
 -- `shares_of` meets its contract: but for the last products, which its limits bound, by one computed test of
 -- intervals. Assumes nothing.
-use mathlib.Core.List.{List, [], _∷_}
-use Prim.Native.Nat.{_^_}
+use mathlib.Core.List.{List}
 use lib.Dec.{T}
 use lib.IntN.{pos}
 use mir.Syntax.{w64}
 use mir.Val.{SFits}
 use Rattle.whole.proofs.Linear.{abs-fits}
 use Rattle.whole.proofs.Solve.{E, _:+_, _:-_, _:*_, #, v0 as t, v1 as s, v2 as level, v3 as rise, v4 as bend}
-use Rattle.whole.proofs.Interval.{Iv, ±, _to_, ∈-abs}
-use Rattle.whole.proofs.Machine.{Src, held, res, In, Ok, safe, ok, does, gave, step}
-use Rattle.gaps.specs.Limits.{widest}
+use Rattle.whole.proofs.Machine.{Src, res, Ok, safe, ok, does, gave, step}
 use Rattle.weights.specs.declared.Quantity.the-variants.{Value, Slope, Curvature}
-use Rattle.gap_curve.specs.GapCurve.{height, rate, fall, shares}
+use Rattle.gap_curve.specs.GapCurve.{by-powers, height, rate, fall, shares}
 use Rattle.gap_curve.proofs.Coded.{heightE, rateE, fallE, shareE}
+use Rattle.gap_curve.proofs.Handed.{numbers, tops, within, value-fits}
 use Rattle.gap_curve.proofs.shares_of.Statement.{statement}
 use Rattle.gap_curve.proofs.shares_of.Tie as tie
 
 abbrev args : tie.Start → List Src
-args c = let a = c .args in held (a .t) ∷ held (a .s) ∷ held (a .level) ∷ held (a .rise) ∷ held (a .bend) ∷ []
+args c = let a = c .args in numbers (a .t) (a .s) (by-powers (a .level) (a .rise) (a .bend))
 
-abbrev tops : List Iv
-tops = pos 0 to pos widest ∷ pos 0 to pos widest ∷ ± (2 ^ 50) ∷ ± (2 ^ 47) ∷ ± (2 ^ 44) ∷ []
-
-within : (c : tie.Start) → In w64 (args c) tops
-within c =
-    let p = c .pre in
-    record { each = (record { low = p .from; high = p .narrow }, (record { low = p .from′; high = p .narrow′ }, (∈-abs (p .level), (∈-abs (p .rise), (∈-abs (p .bend), tt))))) }
-
-op : (e : E) → T (safe w64 tops e) → (c : tie.Start) → SFits w64 (res w64 (args c) e)
-op e t c = step (within c) e t
+op : (e : E) → T (safe w64 (tops (pos 0)) e) → (c : tie.Start) → SFits w64 (res w64 (args c) e)
+op e t c = step (within (c .pre)) e t
 
 abbrev at : E
 at = heightE level rise bend t
@@ -44,23 +34,19 @@ abbrev turns : E
 turns = s :* (# 2 :* bend :* s :- # 4 :* rates) :- # 2 :* falls
 
 -- the last products
-value : (c : tie.Start) → Ok w64 (args c) (shareE Value level rise bend t s)
-unfolding height shares
-value c = record { left = ok (within c) (s :* s :* s) tt; right = ok (within c) at tt; fits = abs-fits (c .pre .value) }
-
 slope : (c : tie.Start) → Ok w64 (args c) (shareE Slope level rise bend t s)
 unfolding height rate fall shares
-slope c = record { left = ok (within c) (s :* s) tt; right = ok (within c) falls tt; fits = abs-fits (c .pre .slope) }
+slope c = record { left = ok (within (c .pre)) (s :* s) tt; right = ok (within (c .pre)) falls tt; fits = abs-fits (c .pre .slope) }
 
 curvature : (c : tie.Start) → Ok w64 (args c) (shareE Curvature level rise bend t s)
 unfolding height rate fall shares
-curvature c = record { left = ok (within c) s tt; right = ok (within c) turns tt; fits = abs-fits (c .pre .curvature) }
+curvature c = record { left = ok (within (c .pre)) s tt; right = ok (within (c .pre)) turns tt; fits = abs-fits (c .pre .curvature) }
 
 returns : tie.Need-returns
 unfolding height rate fall shares
 returns c = λ i.
     record {
-      value = gave w64 (args c) (shareE Value level rise bend t s) (value c) i;
+      value = gave w64 (args c) (shareE Value level rise bend t s) (value-fits (c .pre)) i;
       slope = gave w64 (args c) (shareE Slope level rise bend t s) (slope c) i;
       curvature = gave w64 (args c) (shareE Curvature level rise bend t s) (curvature c) i;
     }
@@ -79,7 +65,7 @@ shares-of-spec =
     (op falls tt)
     (op (s :* s) tt)
     (op (s :* s :* s) tt)
-    (λ c. does w64 (args c) (shareE Value level rise bend t s) (value c))
+    (λ c. does w64 (args c) (shareE Value level rise bend t s) (value-fits (c .pre)))
     (λ c. does w64 (args c) (shareE Slope level rise bend t s) (slope c))
     (op (# 2 :* bend) tt)
     (op (# 2 :* bend :* s) tt)

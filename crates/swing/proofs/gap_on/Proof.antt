@@ -1,7 +1,7 @@
 -- `swing::gap_on` meets its contract: a loop over the minutes between the knots, that keeps what was reached
 -- to either side. Assumes nothing.
 use Prim.Native.Nat.{ℕ, _+_, _-_, _<_, _^_}
-use mathlib.Core.Path.{_≡_, ap, _∙_}
+use mathlib.Core.Path.{_≡_, refl, ap, _∙_}
 use mathlib.Core.List.{List}
 use native.Mathlib.Omega.{arith}
 use lib.IntN.{pos}
@@ -86,21 +86,21 @@ add-loop c =
 add-t : tie.Need-add-t Inv-loop μ-loop
 add-t c = omega (arith, small c)
 
-cast-at : tie.Need-cast-at Inv-loop μ-loop
-cast-at c = record { sfits = omega (arith, small c) }
+cast-value-at : tie.Need-cast-value-at Inv-loop μ-loop
+cast-value-at c = record { sfits = omega (arith, small c) }
 
-at-requires : tie.Need-at-requires Inv-loop μ-loop
-at-requires c κs = (curve-laid (d c .pre .0) (j c) (curve-is c) (there c), minute-laid (d c .pre .0) (j c) (curve-is c) (there c) (t-is c))
+value-at-requires : tie.Need-value-at-requires Inv-loop μ-loop
+value-at-requires c κs = (curve-laid (d c .pre .0) (j c) (curve-is c) (there c), minute-laid (d c .pre .0) (j c) (curve-is c) (there c) (t-is c))
 
 loop-again : tie.Need-loop-again Inv-loop μ-loop
 loop-again c =
-    let l = c .before .before .before .before .before .before in
+    let l = c .before .before .before .before .before in
     let s = d l in
     let y-is = toZ-ofZ {w = w16} (record { sfits = l .before .before .before .y .given }) in
     let z-is = toZ-ofZ {w = w16} (record { sfits = l .before .before .z .given }) in
-    let r = c .before .before .before .before .before .at .result in
-    let v-is = toZ-ofZ {w = w32} {z = r .value} (record { sfits = c .before .before .before .before .struct-told .given .0 .1 }) in
-    let e = curve-reads (s .pre .0) (j l) (curve-is l) (there l) (t-is l) (c .before .before .before .before .before .at .ensures) in (
+    let v = c .before .before .before .before .value-at in
+    let v-is = toZ-ofZ {w = w32} {z = v .result} (record { sfits = v .ok }) ∙ v .ensures in
+    let e = curve-reads (s .pre .0) (j l) (curve-is l) (there l) (t-is l) refl in (
       more l,
       low-on (s .pre .0) (j l) (s .pre .1) (t l) (more l) e y-is z-is v-is (l .before .loop .inv .1) (c .before .before .before .below .ensures) (c .before .before .or .ensures),
       high-on (s .pre .0) (j l) (s .pre .1) (t l) (more l) e y-is z-is v-is (l .before .loop .inv .2) (c .before .above .ensures) (c .or2 .ensures),
@@ -151,8 +151,8 @@ gap-on-spec =
     loop-holds
     add-loop
     add-t
-    cast-at
-    at-requires
+    cast-value-at
+    value-at-requires
     (λ c κs. search needs)
     (λ c κs. search needs)
     (λ c κs. search needs)

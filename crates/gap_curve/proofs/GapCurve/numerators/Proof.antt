@@ -4,54 +4,33 @@ use mathlib.Core.Path.{_≡_, _∙_, ap, ap₂}
 use mathlib.Core.List.{List, [], _∷_}
 use Prim.Native.Nat.{_+_, _<_, _^_}
 use native.Mathlib.Omega.{arith}
-use lib.IntN.{ℤ, pos, natAbs, _+ℤ_, _-ℤ_}
+use lib.IntN.{ℤ, natAbs, _+ℤ_, _-ℤ_}
 use mir.Syntax.{w64}
 use mir.Val.{SFits}
 use Rattle.whole.proofs.Order.{abs-add, abs-sub}
 use Rattle.whole.proofs.Linear.{abs-fits}
-use Rattle.whole.proofs.Solve.{E, _:+_, _:-_, v0, v1, v2, v3, v4}
-use Rattle.whole.proofs.Interval.{Iv, ±, _to_, ∈-abs}
-use Rattle.whole.proofs.Machine.{Src, held, res, In, Ok, does, gave, step, asks, gives}
-use Rattle.gaps.specs.Limits.{widest, In-gap}
+use Rattle.whole.proofs.Solve.{E, _:+_, _:-_, v0, v1}
+use Rattle.whole.proofs.Machine.{Src, held, res, Ok, does, gave, step, asks, gives}
 use Rattle.gaps.proofs.Minutes.{minute-in}
 use Rattle.weights.specs.declared.Quantity.{Quantity}
 use Rattle.weights.specs.declared.Quantity.the-variants.{Value, Slope, Curvature}
-use Rattle.gap_curve.specs.declared.Shares.{Shares}
-use Rattle.gap_curve.specs.declared.Side.{Side}
 use Rattle.gap_curve.specs.declared.GapCurve.{GapCurve}
 use Rattle.gap_curve.specs.GapCurve.{by-powers, shares, added}
 use Rattle.gap_curve.specs.Limits.{Fair}
 use Rattle.gap_curve.proofs.Coded.{share}
 use Rattle.gap_curve.proofs.LaidReads.{fair-left, fair-right, sides-fit}
+use Rattle.gap_curve.proofs.Handed.{on-gap, leftwards, rightwards}
 use Rattle.gap_curve.proofs.GapCurve.numerators.Statement.{statement}
 use Rattle.gap_curve.proofs.GapCurve.numerators.Tie as tie
-
--- ---- the numbers that `shares_of` is handed: the gap, the minute, and P's
-
-abbrev handed : (h t : ℤ) → Side → List Src
-handed h t p = held h ∷ held t ∷ held (p .level) ∷ held (p .rise) ∷ held (p .bend) ∷ []
-
-abbrev tops : List Iv
-tops = pos 1 to pos widest ∷ pos 0 to pos widest ∷ ± (2 ^ 50) ∷ ± (2 ^ 47) ∷ ± (2 ^ 44) ∷ []
-
-within : {h t t′ s : ℤ} {p : Side} → In-gap h t → Fair p t′ s → In w64 (handed h t p) tops
-within g f = let m = minute-in g .each in record { each = (m .0, (m .1 .0, (∈-abs (f .level), (∈-abs (f .rise), (∈-abs (f .bend), tt))))) }
-
--- from the left knot and from the right one
-abbrev leftwards : List E
-leftwards = v2 ∷ v3 ∷ v4 ∷ v1 ∷ (v0 :- v1) ∷ []
-
-abbrev rightwards : List E
-rightwards = v2 ∷ v3 ∷ v4 ∷ (v0 :- v1) ∷ v1 ∷ []
 
 abbrev start : tie.After-struct-told4 → tie.Start
 start c = c .before .before .before .before .before .before .before
 
 shares-of-requires : tie.Need-shares-of-requires
-shares-of-requires c κs = let q = start c .pre in let f = fair-left (q .0) (q .1) in asks (within (q .1) f) leftwards (λ l r b t s. Fair (by-powers l r b) t s) tt f
+shares-of-requires c κs = let q = start c .pre in let f = fair-left (q .0) (q .1) in asks (on-gap (q .1) f) leftwards (λ l r b t s. Fair (by-powers l r b) t s) tt f
 
 shares-of-requires-2 : tie.Need-shares-of-requires-2
-shares-of-requires-2 c κs = let q = start (c .before .before .before .before) .pre in let f = fair-right (q .0) (q .1) in asks (within (q .1) f) rightwards (λ l r b s t. Fair (by-powers l r b) s t) tt f
+shares-of-requires-2 c κs = let q = start (c .before .before .before .before) .pre in let f = fair-right (q .0) (q .1) in asks (on-gap (q .1) f) rightwards (λ l r b s t. Fair (by-powers l r b) s t) tt f
 
 -- ---- together
 
@@ -72,10 +51,10 @@ module _ (c : tie.After-shares-of2) where
   g = d .args .self
 
   left-added : first .shares-of .result ≡ shares (g .left) t (h -ℤ t)
-  left-added = gives (within (d .pre .1) (fair-left (d .pre .0) (d .pre .1))) leftwards (λ l r b t s. first .shares-of .result ≡ shares (by-powers l r b) t s) tt (first .shares-of .ensures)
+  left-added = gives (on-gap (d .pre .1) (fair-left (d .pre .0) (d .pre .1))) leftwards (λ l r b t s. first .shares-of .result ≡ shares (by-powers l r b) t s) tt (first .shares-of .ensures)
 
   right-added : c .shares-of2 .result ≡ shares (g .right) (h -ℤ t) t
-  right-added = gives (within (d .pre .1) (fair-right (d .pre .0) (d .pre .1))) rightwards (λ l r b s t. c .shares-of2 .result ≡ shares (by-powers l r b) s t) tt (c .shares-of2 .ensures)
+  right-added = gives (on-gap (d .pre .1) (fair-right (d .pre .0) (d .pre .1))) rightwards (λ l r b s t. c .shares-of2 .result ≡ shares (by-powers l r b) s t) tt (c .shares-of2 .ensures)
 
   abbrev both : Quantity → List Src
   both q = held (share q (first .shares-of .result)) ∷ held (share q (c .shares-of2 .result)) ∷ []
