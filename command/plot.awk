@@ -1,5 +1,7 @@
-# Draws a card as SVG. Reads what `workbench points` prints: a line for each knot (minute ordinate slope curvature), a line 'ok N', then a line for each minute (minute value slope
-# curvature). CARD names it. In a gap where the curve leaves the band between the ordinates of the gap's two knots, the band is shown and the curve is red outside of it.
+# Draws a card as SVG. Reads what `workbench points` prints: a line for each knot (minute ordinate slope
+# curvature), a line 'ok N', then a line for each minute (minute value slope curvature). CARD names it. The curve
+# is red where `kaihveto check` warns: where it goes more than SWING hundredths beyond both knots of its gap, whose
+# band between the two ordinates is shown then, and where it leaves 0 to 100 %.
 
 # A picture is XML in UTF-8: what is neither a letter of it nor printable is shown as '?'. Bytes are told apart in the C locale alone, in which this is run.
 function printable(s,    shown) {
@@ -82,14 +84,15 @@ END {
     for (m = start; m <= last; m += each) text(across(m), top + high + 18, "middle", m)
     text(left + wide / 2, top + high + 40, "middle", "minutes")
 
-    # which gaps the curve leaves
+    # where it is warned of, and in which gaps that is a swing
+    swing = ENVIRON["SWING"] + 0
     gap = 1
     for (i = 1; i <= points; i++) {
         while (gap < knots - 1 && minute[i] > x[gap + 1]) gap++
         below = y[gap] < y[gap + 1] ? y[gap] : y[gap + 1]
         above = y[gap] < y[gap + 1] ? y[gap + 1] : y[gap]
-        outside[i] = value[i] < below || value[i] > above
-        if (outside[i]) leaves[gap] = 1
+        if (below - value[i] > swing || value[i] - above > swing) outside[i] = leaves[gap] = 1
+        if (value[i] < 0 || value[i] > 10000) outside[i] = 1
     }
     for (gap = 1; gap < knots; gap++) if (leaves[gap]) {
         above = y[gap] < y[gap + 1] ? y[gap + 1] : y[gap]

@@ -1,11 +1,14 @@
-// A book of the rooms' cards: made, listed, and a room's card found in it or put into it. Argument 3 is the book's file, argument 4 the room, argument 5 the card's file.
+// A book of the rooms' cards: made, listed, and a room's card found in it or put into it. Argument 3 is the book's
+// file, argument 4 the room, argument 5 the card's file, arguments 6 and 7 what is cared for.
 use crate::arguments::Asked;
 use crate::line::Line;
+use crate::swings::Care;
 use answer::Judged;
 use book::Step;
 use book::Used;
 use decode::Card;
 use opened::Opened;
+use text::Sheet;
 
 // The number with which a book says that it has no such room.
 const ABSENT: u32 = 20;
@@ -195,18 +198,25 @@ fn put_judged(
     room: u16,
     name: &[u8],
     bytes: &[u8],
+    care: Care,
 ) -> u8 {
     let opened = Opened::by_head(bytes);
     let verdict = opened.verdict;
     let card = opened.card;
     match verdict {
         Judged::Refused(number, place) => crate::tell::refused(name, number, place),
-        Judged::Accepted => put_sound(file, book, replaced, room, bytes, card),
+        Judged::Accepted => {
+            let allowed = crate::swings::allow(name, [0; Sheet::MOST], bytes, care);
+            if allowed != crate::tell::DONE {
+                return allowed;
+            }
+            put_sound(file, book, replaced, room, bytes, card)
+        }
     }
 }
 
 // A card by its name and its bytes. The book is judged by its file's own bytes: the zeros behind them in the buffer could end a record that is cut short.
-pub(crate) fn put(name: &[u8], card: &[u8], room: u16) -> u8 {
+pub(crate) fn put(name: &[u8], card: &[u8], room: u16, care: Care) -> u8 {
     let mut file = io::buffer();
     let n = os::arg(3, &mut file);
     let mut bytes = io::large_buffer();
@@ -220,7 +230,7 @@ pub(crate) fn put(name: &[u8], card: &[u8], room: u16) -> u8 {
         return crate::tell::refused(&file[..n], used.number, used.place);
     }
     let replaced = book::find(&bytes[..k], room).number != ABSENT;
-    put_judged(&file[..n], &mut bytes, replaced, room, name, card)
+    put_judged(&file[..n], &mut bytes, replaced, room, name, card, care)
 }
 
 // ---- which of them is asked for

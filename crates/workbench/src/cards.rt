@@ -1,6 +1,8 @@
 // What is done with a card, a file's or a room's in a book: list, check, at, table, points, and put into a book.
 use crate::arguments::Asked;
 use crate::rooms::Told;
+use crate::swings::Care;
+use crate::swings::Cared;
 use answer::Judged;
 use decode::Card;
 use opened::Opened;
@@ -8,11 +10,11 @@ use opened::Opened;
 // What is asked; `At` of how many arguments there are, `Table` every how many minutes, `Put` for which room.
 enum Job {
     List,
-    Check,
+    Check(Care),
     At(usize),
     Table(u16),
     Points,
-    Put(u16),
+    Put(u16, Care),
 }
 
 fn list(name: &[u8], bytes: &[u8]) -> u8 {
@@ -72,7 +74,7 @@ fn at(name: &[u8], bytes: &[u8], count: usize) -> u8 {
 fn sound(name: &[u8], bytes: &[u8], card: Card, job: Job) -> u8 {
     let minutes = card.minutes;
     match job {
-        Job::Check => crate::checks::report(name, bytes, card),
+        Job::Check(care) => crate::checks::report(name, bytes, card, care),
         Job::Table(every) => crate::tables::print(bytes, minutes[0], every),
         Job::Points => {
             let listed = list(name, bytes);
@@ -96,7 +98,7 @@ fn with(name: &[u8], bytes: &[u8], job: Job) -> u8 {
     match job {
         Job::List => list(name, bytes),
         Job::At(count) => at(name, bytes, count),
-        Job::Put(room) => crate::books::put(name, bytes, room),
+        Job::Put(room, care) => crate::books::put(name, bytes, room, care),
         _ => opened(name, bytes, job),
     }
 }
@@ -146,19 +148,37 @@ fn with_argument(i: usize, job: Job) -> u8 {
 }
 
 // Each card is answered, also behind one that is refused.
-fn check(count: usize) -> u8 {
+fn check_all(count: usize, care: Care) -> u8 {
     let mut status = crate::tell::DONE;
-    let mut i: usize = 2;
+    let mut i: usize = 4;
     while i < count {
-        status = crate::tell::graver(status, with_argument(i, Job::Check));
+        status = crate::tell::graver(status, with_argument(i, Job::Check(care)));
         i += 1;
     }
     status
 }
 
+fn check(count: usize) -> u8 {
+    match crate::swings::asked_for(2, 3) {
+        Cared::Nothing => crate::tell::FAILED,
+        Cared::For(care) => check_all(count, care),
+    }
+}
+
+// The bound, argument 3, is the drawing's to use; here it only has to be one.
+fn points() -> u8 {
+    match crate::swings::asked_for(3, 4) {
+        Cared::Nothing => crate::tell::FAILED,
+        Cared::For(_) => with_argument(2, Job::Points),
+    }
+}
+
 // Argument 5's card.
 pub(crate) fn put(room: u16) -> u8 {
-    with_argument(5, Job::Put(room))
+    match crate::swings::asked_for(6, 7) {
+        Cared::Nothing => crate::tell::FAILED,
+        Cared::For(care) => with_argument(5, Job::Put(room, care)),
+    }
 }
 
 fn table(count: usize) -> u8 {
@@ -193,7 +213,7 @@ pub(crate) fn run(command: &[u8], count: usize) -> u8 {
         return table(count);
     }
     if crate::arguments::same(command, b"points") {
-        return with_argument(2, Job::Points);
+        return points();
     }
     crate::tell::FAILED
 }

@@ -1,8 +1,11 @@
-// The report on a card: how far its curve goes, where it leaves 0 to 100 %, and which of its numbers a fresh fit of its knots does not give.
+// The report on a card: how far its curve goes, where it leaves 0 to 100 % or goes far beyond its knots, and which
+// of its numbers a fresh fit of its knots does not give.
 use crate::line::Line;
+use crate::swings::Care;
 use crate::tables::Readings;
 use decode::Card;
 use knots::Kind;
+use swing::Swung;
 
 const FULL: i32 = 10_000;
 
@@ -31,6 +34,15 @@ impl Extreme {
 struct Span {
     lowest: Extreme,
     highest: Extreme,
+}
+
+impl Span {
+    // Whether it leaves 0 to 100 %.
+    fn leaves(self) -> bool {
+        let lowest = self.lowest;
+        let highest = self.highest;
+        lowest.value < 0 || FULL < highest.value
+    }
 }
 
 fn extremes(readings: Readings) -> Span {
@@ -80,9 +92,9 @@ pub(crate) fn reach(line: Line, card: Card) -> Line {
         .count(last_minute(card) as u64)
 }
 
-// `room3.card: ok, 18 knots, minute 0 to 1020, lowest -463 at 388, highest 10216 at 131`.
-fn summary(name: &[u8], card: Card, readings: Readings) -> u8 {
-    let found = extremes(readings);
+// `room3.card: ok, 18 knots, minute 0 to 1020, lowest -463 at 388, highest 10216 at 131, beyond its knots by 463
+// at 388`.
+fn summary(name: &[u8], card: Card, found: Span, furthest: Swung) -> u8 {
     let lowest = found.lowest;
     let highest = found.highest;
     let low = reach(Line::new().words(b": ok, "), card)
@@ -94,7 +106,9 @@ fn summary(name: &[u8], card: Card, readings: Readings) -> u8 {
         .number(highest.value)
         .words(b" at ")
         .count(highest.minute as u64);
-    high.words(b"\n").print(name)
+    crate::swings::furthest(high, furthest)
+        .words(b"\n")
+        .print(name)
 }
 
 // Minutes one after the other at which the curve is outside.
@@ -246,16 +260,24 @@ fn notes(name: &[u8], bytes: &[u8], card: Card) -> u8 {
     compare(name, card, &slopes, &curvatures)
 }
 
-// Of a card that is accepted.
-pub(crate) fn report(name: &[u8], bytes: &[u8], card: Card) -> u8 {
-    let minutes = card.minutes;
-    let readings = Readings::of(bytes, minutes[0]);
-    let said = summary(name, card, readings);
+fn warn(name: &[u8], bytes: &[u8], readings: Readings, furthest: Swung, care: Care) -> u8 {
     let below = warnings(name, readings, true, b"below 0");
     let above = warnings(name, readings, false, b"above 10000");
+    let beyond = crate::swings::report(name, bytes, furthest, care);
+    crate::tell::graver(crate::tell::graver(below, above), beyond)
+}
+
+// Of a card that is accepted.
+pub(crate) fn report(name: &[u8], bytes: &[u8], card: Card, care: Care) -> u8 {
+    let minutes = card.minutes;
+    let readings = Readings::of(bytes, minutes[0]);
+    let found = extremes(readings);
+    let furthest = swing::swing(bytes);
+    let said = summary(name, card, found, furthest);
+    let warned = warn(name, bytes, readings, furthest, care);
     let noted = notes(name, bytes, card);
     crate::tell::graver(
-        crate::tell::graver(said, below),
-        crate::tell::graver(above, noted),
+        crate::tell::graver(said, warned),
+        crate::tell::graver(noted, care.status(found.leaves())),
     )
 }

@@ -51,6 +51,22 @@ impl Line {
         self.count(magnitude)
     }
 
+    // Behind a name, to standard error.
+    fn tell(self, name: &[u8]) -> u8 {
+        let bytes = self.bytes;
+        io::write_all(2, name);
+        io::write_all(2, crate::tell::front(&bytes, self.length));
+        crate::tell::DONE
+    }
+
+    // To standard output where it is the answer, to standard error where it stands beside one.
+    pub(crate) fn say(self, name: &[u8], aloud: bool) -> u8 {
+        if aloud {
+            return self.print(name);
+        }
+        self.tell(name)
+    }
+
     // Behind a name, to standard output.
     pub(crate) fn print(self, name: &[u8]) -> u8 {
         let bytes = self.bytes;

@@ -1,4 +1,6 @@
 // The text of a sheet, with the logs that it names: fitted, or mended and then fitted, and listed, and its card made a file.
+use crate::swings::Care;
+use crate::swings::Cared;
 use mend::Plan;
 use reply::Answered;
 use rows::End;
@@ -10,11 +12,20 @@ enum Job {
     Mend,
 }
 
-// A refusal is told behind the sheet's name. The card comes first, so that a listing is seen only where all is done; where none is asked for, its name counts for nothing.
+// Where the card goes, where one is asked for, and what is cared for.
+struct Wish {
+    asked: bool,
+    care: Care,
+}
+
+// A refusal is told behind the sheet's name. The warnings come first, since one of them may be a refusal, and
+// then the card, so that a listing is seen only where all is done; where no card is asked for, its name counts
+// for nothing.
 fn saved(
     file: &[u8],
-    asked: bool,
+    wish: Wish,
     card: &[u8],
+    lines: [u32; Sheet::MOST],
     answered: Answered,
     said: &[u8],
     made: &[u8],
@@ -24,11 +35,12 @@ fn saved(
         io::write_all(2, crate::tell::front(said, answered.length));
         return answered.status;
     }
-    if asked {
-        let size = answered.card as usize;
-        return crate::files::save(card, crate::tell::front(made, size));
+    let bytes = crate::tell::front(made, answered.card as usize);
+    let allowed = crate::swings::allow(file, lines, bytes, wish.care);
+    if allowed == crate::tell::DONE && wish.asked {
+        return crate::files::save(card, bytes);
     }
-    crate::tell::DONE
+    allowed
 }
 
 // A card that goes to standard output goes alone.
@@ -39,7 +51,7 @@ fn listed(asked: bool, card: &[u8], listing: &[u8]) -> u8 {
     crate::tell::print(listing)
 }
 
-fn fit_text(text: &[u8], file: &[u8], asked: bool, card: &[u8], left: End, right: End) -> u8 {
+fn fit_text(text: &[u8], file: &[u8], wish: Wish, card: &[u8], left: End, right: End) -> u8 {
     let sheet = Sheet::read(text, false);
     let mut logs = io::buffer();
     if !crate::slots::load(file, text, sheet, &mut logs) {
@@ -48,12 +60,13 @@ fn fit_text(text: &[u8], file: &[u8], asked: bool, card: &[u8], left: End, right
     let mut said = io::buffer();
     let mut made = io::buffer();
     let answered = reply::answer(text, sheet, &logs, left, right, &mut said, &mut made);
+    let lines = sheet.lines;
     let length = answered.length;
-    let status = saved(file, asked, card, answered, &said, &made);
+    let status = saved(file, wish, card, lines, answered, &said, &made);
     if status != crate::tell::DONE {
         return status;
     }
-    listed(asked, card, crate::tell::front(&said, length))
+    listed(wish.asked, card, crate::tell::front(&said, length))
 }
 
 fn tell_change(file: &[u8], line: u32, knot: u32, new: i32) {
@@ -79,7 +92,7 @@ fn tell_changes(file: &[u8], plan: Plan, lines: [u32; Sheet::MOST]) {
     }
 }
 
-fn mend_text(text: &[u8], file: &[u8], asked: bool, card: &[u8]) -> u8 {
+fn mend_text(text: &[u8], file: &[u8], wish: Wish, card: &[u8]) -> u8 {
     let sheet = Sheet::read(text, true);
     let mut logs = io::buffer();
     if !crate::slots::load(file, text, sheet, &mut logs) {
@@ -92,15 +105,15 @@ fn mend_text(text: &[u8], file: &[u8], asked: bool, card: &[u8]) -> u8 {
     let plan = mending.plan;
     let lines = mending.lines;
     let length = answered.length;
-    let status = saved(file, asked, card, answered, &said, &made);
+    let status = saved(file, wish, card, lines, answered, &said, &made);
     if status != crate::tell::DONE {
         return status;
     }
     tell_changes(file, plan, lines);
-    listed(asked, card, crate::tell::front(&said, length))
+    listed(wish.asked, card, crate::tell::front(&said, length))
 }
 
-fn with_sheet(file: &[u8], asked: bool, card: &[u8], job: Job) -> u8 {
+fn with_sheet(file: &[u8], wish: Wish, card: &[u8], job: Job) -> u8 {
     let mut bytes = io::large_buffer();
     let got = crate::files::load(file, &mut bytes);
     if got < 0 {
@@ -108,21 +121,29 @@ fn with_sheet(file: &[u8], asked: bool, card: &[u8], job: Job) -> u8 {
     }
     let n = io::count(got, &bytes);
     match job {
-        Job::Fit(left, right) => fit_text(&bytes[..n], file, asked, card, left, right),
-        Job::Mend => mend_text(&bytes[..n], file, asked, card),
+        Job::Fit(left, right) => fit_text(&bytes[..n], file, wish, card, left, right),
+        Job::Mend => mend_text(&bytes[..n], file, wish, card),
     }
 }
 
-// Arguments 2 and, where there is one, 3.
-fn run(count: usize, job: Job) -> u8 {
+// Argument 2 is the sheet and, where there is one, argument 5 the card.
+fn run_with(count: usize, job: Job, care: Care) -> u8 {
     let mut file = io::buffer();
     let n = os::arg(2, &mut file);
-    if count < 4 {
-        return with_sheet(&file[..n], false, b"", job);
-    }
     let mut card = io::buffer();
-    let k = os::arg(3, &mut card);
-    with_sheet(&file[..n], true, &card[..k], job)
+    let k = os::arg(5, &mut card);
+    let wish = Wish {
+        asked: 5 < count,
+        care,
+    };
+    with_sheet(&file[..n], wish, &card[..k], job)
+}
+
+fn run(count: usize, job: Job) -> u8 {
+    match crate::swings::asked_for(3, 4) {
+        Cared::Nothing => crate::tell::FAILED,
+        Cared::For(care) => run_with(count, job, care),
+    }
 }
 
 // Without ends named: it starts at rest.
