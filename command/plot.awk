@@ -1,7 +1,7 @@
 # Draws a card as SVG. Reads what `workbench points` prints: a line for each knot (minute ordinate slope
-# curvature), a line 'ok N', then a line for each minute (minute value slope curvature). CARD names it. The curve
-# is red where `kaihveto check` warns: where it goes more than SWING hundredths beyond both knots of its gap, whose
-# band between the two ordinates is shown then, and where it leaves 0 to 100 %.
+# curvature), a line 'ok N', then a line for each minute (minute value slope curvature). CARD names it. The
+# curve is red where `kaihveto check` warns: where it goes more than SWING hundredths beyond both knots of its
+# gap, whose band between the two ordinates is shown then, and where it leaves 0 to 100 %.
 
 # A picture is XML in UTF-8: what is neither a letter of it nor printable is shown as '?'. Bytes are told apart in the C locale alone, in which this is run.
 function printable(s,    shown) {
