@@ -1,4 +1,4 @@
--- No card within half a unit of an exact solution is refused with 10, for each kind whose allowance is enough; document 01's is.
+-- No card within half a unit of an exact solution is refused with 10, for each kind whose allowance is enough; document 01's is, and order 8's.
 -- Assumes nothing.
 use mathlib.Core.Path.{_≡_, refl, subst}
 use mathlib.Core.Logic.{_≢_}
@@ -14,7 +14,7 @@ use Rattle.whole.specs.Whole.{_·_}
 use Rattle.answer.specs.Answer.{accepted, refuse, number}
 use Rattle.curve.specs.Formula.{num, worth, amount}
 use Rattle.curve.specs.Curve.{Order, third, fourth, degree, allowance}
-use Rattle.curve.specs.Kind.{Kind, Spot, quintic}
+use Rattle.curve.specs.Kind.{Kind, Spot, quintic, sloped, sloped-asks, sloped-allowance}
 use Rattle.curve.specs.Card.{Card, Knot, knots, knot, back, on, gap, spot, joint}
 use Rattle.curve.specs.Jump.{inverse, clear, over, rise, jump, allowed, jumps}
 use Rattle.curve.specs.Steps.{lengths, counted, codes, stands, in-range, smooth}
@@ -38,6 +38,14 @@ quintic-enough = record { enough = λ s o t G. here o G }
     here : (o : Order) (G : ℕ → ℕ) → pos (slack (solved quintic) o G) ≤ℤ (2 · amount (quintic .allowance o (λ i. num (pos (G i)))))
     here third G = omega linear
     here fourth G = omega linear
+
+pub sloped-enough : Enough sloped
+unfolding sloped sloped-asks sloped-allowance amount worth
+sloped-enough = record { enough = λ s o t G. here s o t G }
+  where
+    here : (s : Spot) (o : Order) → T (sloped .asks s o) → (G : ℕ → ℕ) → pos (slack (solved sloped) o G) ≤ℤ (2 · amount (sloped .allowance o (λ i. num (pos (G i)))))
+    here s third t G = omega linear
+    here s fourth t G = absurd t
 
 asked : (b x : Bool) → (T b → T x) → b && not x ≡ false
 asked true true f = refl

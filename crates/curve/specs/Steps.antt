@@ -46,6 +46,10 @@ curvature-beyond K j = beyond (K .curvatures (max (gap (j .before) (j .here)) (g
 unfoldable pub in-range : Kind → Card → ℕ → Verdict
 in-range K c i = refuse 9 i (slope-beyond K (joint c i) || curvature-beyond K (joint c i))
 
+-- order 8: "9 for the given slopes", whatever the curvatures
+unfoldable pub slope-in-range : Kind → Card → ℕ → Verdict
+slope-in-range K c i = refuse 9 i (slope-beyond K (joint c i))
+
 -- 10 at a knot
 unfoldable pub smooth : Kind → Card → ℕ → Verdict
 smooth K c i = refuse 10 i (jumps K (joint c i) third || jumps K (joint c i) fourth)

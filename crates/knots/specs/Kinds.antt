@@ -1,7 +1,7 @@
--- A kind of card as the code carries it, and the kind of the definitions that it stands for. Document 01, "The curve and its card", "The jump test".
--- Assumes nothing.
+-- A kind of card as the code carries it, and the kind of the definitions that it stands for. Document 01, "The curve and its card", "The jump test";
+-- document 02, order 8. Assumes nothing.
 use Prim.Native.Nat.{ℕ}
-use mathlib.Core.Bool.{Bool, true, not, _&&_}
+use mathlib.Core.Bool.{Bool, true, false, not, _&&_}
 use lib.IntN.{ℤ}
 use lib.Dec.{ltb}
 use Rattle.curve.specs.Formula.{Formula, _⊕_, _⊛_}
@@ -15,7 +15,10 @@ abbrev pub most-given : ℕ
 most-given = 256
 
 abbrev pub quintic-card : Carried
-quintic-card = record { code = 2; squares = 16; fourth = true }
+quintic-card = record { head = 1; code = 2; squares = 16; fourth = true }
+
+abbrev pub sloped-card : Carried
+sloped-card = record { head = 6; code = 0; squares = 0; fourth = false }
 
 abbrev asks-order : Carried → Order → Bool
 asks-order k third = true
@@ -29,6 +32,7 @@ allowance-of k fourth g = Curve.allowance fourth g
 abbrev pub kind-of : Carried → Kind
 kind-of k =
     record {
+      head = k .head;
       fewest-knots = quintic .fewest-knots;
       most-knots = quintic .most-knots;
       widest-gap = quintic .widest-gap;

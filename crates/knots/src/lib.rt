@@ -11,12 +11,14 @@ ghost use Rattle.answer.specs.Answer.{_then_, each};
 ghost use Rattle.answer.specs.Judge.{verdict-of, numbered};
 ghost use Rattle.curve.specs.Kind.{quintic};
 ghost use Rattle.curve.specs.Steps.{lengths, counted, codes, stands, in-range, room};
-ghost use Rattle.knots.specs.Kinds.{quintic-card, kind-of};
+ghost use Rattle.knots.specs.Kinds.{quintic-card, sloped-card, kind-of};
 ghost use Rattle.knots.specs.Lent.{lent};
 ghost use Rattle.minutes.specs.Gaps.{wider-gap};
 
 // What differs between kinds of card; what they share is below.
 pub struct Kind {
+    // the kind of the record that opens its cards
+    pub head: u16,
     // the greatest code of an end
     pub code: u16,
     // how many g2 the third's allowance has
@@ -45,9 +47,22 @@ impl Kind {
         ensures { λ r. ⌜ r ≡ quintic-card ⌝ }
     {
         Kind {
+            head: 1,
             code: 2,
             squares: 16,
             fourth: true,
+        }
+    }
+
+    // Document 02, order 8: the slopes are given.
+    pub fn sloped() -> Self
+        ensures { λ r. ⌜ r ≡ sloped-card ⌝ }
+    {
+        Kind {
+            head: 6,
+            code: 0,
+            squares: 0,
+            fourth: false,
         }
     }
 }
