@@ -48,6 +48,7 @@ unfoldable pub two-hours : ℕ → Kind
 unfolding quintic
 two-hours beside-wide =
     record {
+      head = quintic .head;
       fewest-knots = quintic .fewest-knots;
       most-knots = quintic .most-knots;
       widest-gap = widest;
