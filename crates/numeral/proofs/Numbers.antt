@@ -1,4 +1,4 @@
--- What a word's number is, by the tests that the code makes; an ordinate from its digits.
+-- What a word's number is, by the tests that the code makes; a number with a sign from its digits.
 -- Assumes nothing.
 use Prim.Native.Nat.{ℕ, zero, suc, _-_, _^_, _≤_, _<_}
 use mathlib.Core.Path.{_≡_, refl, ap}
@@ -9,13 +9,13 @@ use lib.Dec.{ltb, eqb}
 use lib.IntN.{negsuc}
 use lib.ListN.{length, getD}
 use borrow.Author.Tests.{ltb-false}
-use mir.Syntax.{w16}
+use mir.Syntax.{w32}
 use mir.Val.{toZ}
 use mir.Facts.{toZ-ofZ, toZ-pos}
 use Rattle.decimal.specs.Decimal.{value}
 use Rattle.numeral.specs.Number.{starts, all-digits, padded, not-whole, leading-zero, too-large, at-most, natural, above, below}
 use Rattle.numeral.specs.declared.Number.the-variants.{Whole, Bad}
-use Rattle.numeral.specs.declared.Ordinate.the-variants.{Given, Wrong}
+use Rattle.numeral.specs.declared.Signed.the-variants.{Told, Untold}
 
 -- ---- the first byte
 
@@ -60,25 +60,25 @@ module _ (most : ℕ) (w : List ℕ) where
       go true false true t e = let z : _≡_ {A = ℕ} 0 1 = cc in absurd (omega arith)
       go true false false t e = let v : value w ≡ n = cc in omega (arith, ltb-false most (value w) t)
 
--- ---- ordinates
+-- ---- with a sign
 
 module _ (w : List ℕ) {n : ℕ} where
-  pub is-above : natural 32767 w ≡ Whole n → Given (toZ w16 n) ≡ above (natural 32767 w)
+  pub is-above : natural 2147483647 w ≡ Whole n → Told (toZ w32 n) ≡ above (natural 2147483647 w)
   unfolding above
-  is-above e = let h = natural-upto 32767 w e in rw (e, toZ-pos w16 {n = n} (omega arith))
+  is-above e = let h = natural-upto 2147483647 w e in rw (e, toZ-pos w32 {n = n} (omega arith))
 
-  module _ (e : natural 32768 w ≡ Whole n) where
-    pub is-zero : n ≡ 0 → Wrong leading-zero ≡ below (natural 32768 w)
+  module _ (e : natural 2147483648 w ≡ Whole n) where
+    pub is-zero : n ≡ 0 → Untold leading-zero ≡ below (natural 2147483648 w)
     unfolding below
     is-zero z = rw (e, z)
 
-    pub is-below : (n ≡ 0 → ⊥) → Given (toZ w16 (65535 - (n - 1))) ≡ below (natural 32768 w)
+    pub is-below : (n ≡ 0 → ⊥) → Told (toZ w32 (4294967295 - (n - 1))) ≡ below (natural 2147483648 w)
     unfolding below
-    is-below z = rw e (go n z (natural-upto 32768 w e))
+    is-below z = rw e (go n z (natural-upto 2147483648 w e))
       where
-        go : (n : ℕ) → (n ≡ 0 → ⊥) → n ≤ 32768 → Given (toZ w16 (65535 - (n - 1))) ≡ below (Whole n)
+        go : (n : ℕ) → (n ≡ 0 → ⊥) → n ≤ 2147483648 → Told (toZ w32 (4294967295 - (n - 1))) ≡ below (Whole n)
         go zero z h = absurd (z refl)
         go (suc k) z h =
-            let m : 65535 - (suc k - 1) ≡ 65536 - suc k = omega arith in
-            let f : k < 2 ^ 15 = omega arith in
-            rw m (ap Given (toZ-ofZ {w = w16} {z = negsuc k} (record { sfits = f })))
+            let m : 4294967295 - (suc k - 1) ≡ 4294967296 - suc k = omega arith in
+            let f : k < 2 ^ 31 = omega arith in
+            rw m (ap Told (toZ-ofZ {w = w32} {z = negsuc k} (record { sfits = f })))

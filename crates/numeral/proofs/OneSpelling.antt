@@ -1,4 +1,4 @@
--- A number has one spelling: a word that is read as a number, or as an ordinate, is that number in decimal; and a hole is a minus alone.
+-- A number has one spelling: a word that is read as a number, with a sign or without, or as an ordinate, is that number in decimal; and a hole is a minus alone.
 -- Assumes nothing.
 use Prim.Native.Nat.{ℕ, zero, suc, _+_, _-_, _*_, _/_, _%_, _^_, _≤_, _<_}
 use mathlib.Core.Path.{_≡_, refl, sym, ap, _∙_}
@@ -9,6 +9,7 @@ use native.Mathlib.Omega.{arith}
 use native.Mathlib.Decide.{decLt}
 use lib.Dec.{ltb, eqb, lit<}
 use lib.IntN.{ℤ, pos, negsuc}
+use lib.Signed.{ltZ}
 use lib.ListN.{length, take, drop, getD}
 use lib.Seq.{take-suc, take-all, drop-length}
 use borrow.Author.Tests.{lt-ltb, le-ltb, ltb-true, ltb-false, eqb-true, eqb-false}
@@ -16,11 +17,12 @@ use Rattle.decimal.specs.Decimal.{digits, places, decimal, value-from, value, m
 use Rattle.split.specs.Parts.{marks, stop}
 use Rattle.split.specs.declared.Mark.the-variants.{NoDigit}
 use Rattle.split.proofs.Stops.{before-stop}
-use Rattle.numeral.specs.Number.{starts, all-digits, padded, too-large, not-whole, leading-zero, at-most, natural, above, below, lone-minus, ordinate}
+use Rattle.numeral.specs.Number.{starts, all-digits, padded, too-large, not-whole, leading-zero, at-most, natural, above, below, signed-number, narrowed, lone-minus, ordinate}
 use Rattle.numeral.specs.declared.Number.{Number}
 use Rattle.numeral.specs.declared.Number.the-variants.{Whole, Bad}
-use Rattle.numeral.specs.declared.Ordinate.{Ordinate}
-use Rattle.numeral.specs.declared.Ordinate.the-variants.{Given, Hole}
+use Rattle.numeral.specs.declared.Signed.{Signed}
+use Rattle.numeral.specs.declared.Signed.the-variants.{Told, Untold}
+use Rattle.numeral.specs.declared.Ordinate.the-variants.{Given, Hole, Wrong}
 use Rattle.numeral.proofs.Values.{second, digits-from, grows}
 use Rattle.decimal.proofs.Digits.{value-append}
 
@@ -136,7 +138,7 @@ one-spelling most w {n} few e = go (all-digits w) refl (padded w) refl (ltb most
         let v : value w ≡ n = cc in
         rw v at (is-decimal (spelt w d z) (omega (arith, ltb-false most (value w) t)))
 
--- ---- an ordinate
+-- ---- with a sign, and as an ordinate
 
 -- the word behind a minus
 behind-minus : (w : List ℕ) → starts minus w ≡ true → w ≡ minus ∷ drop 1 w
@@ -144,42 +146,52 @@ unfolding starts
 behind-minus [] e = absurd (true≢false (sym e))
 behind-minus (b ∷ w) e = ap (λ b. b ∷ w) (eqb-true b minus e)
 
-spelled-above : (w : List ℕ) (a : Number) → natural 32767 w ≡ a → {z : ℤ} → above a ≡ Given z → w ≡ signed z
+spelled-above : (w : List ℕ) (a : Number) → natural 2147483647 w ≡ a → {z : ℤ} → above a ≡ Told z → w ≡ signed z
 unfolding above signed
 spelled-above w (Bad wrong) e g = let z : _≡_ {A = ℕ} 0 1 = cc in absurd (omega arith)
-spelled-above w (Whole n) e {z} g = let i : pos n ≡ z = cc in rw (← i) (one-spelling 32767 w (lit< tt) e)
+spelled-above w (Whole n) e {z} g = let i : pos n ≡ z = cc in rw (← i) (one-spelling 2147483647 w (lit< tt) e)
 
-spelled-below : (w : List ℕ) (a : Number) → natural 32768 w ≡ a → {z : ℤ} → below a ≡ Given z → (minus ∷ w) ≡ signed z
+spelled-below : (w : List ℕ) (a : Number) → natural 2147483648 w ≡ a → {z : ℤ} → below a ≡ Told z → (minus ∷ w) ≡ signed z
 unfolding below signed
 spelled-below w (Bad wrong) e g = let z : _≡_ {A = ℕ} 0 1 = cc in absurd (omega arith)
 spelled-below w (Whole zero) e g = let z : _≡_ {A = ℕ} 0 1 = cc in absurd (omega arith)
-spelled-below w (Whole (suc n)) e {z} g = let i : negsuc n ≡ z = cc in rw (← i) (ap (λ ds. minus ∷ ds) (one-spelling 32768 w (lit< tt) e))
+spelled-below w (Whole (suc n)) e {z} g = let i : negsuc n ≡ z = cc in rw (← i) (ap (λ ds. minus ∷ ds) (one-spelling 2147483648 w (lit< tt) e))
 
--- no number is a hole
-above-no-hole : (a : Number) → (above a ≡ Hole) → ⊥
-unfolding above
-above-no-hole (Bad wrong) e = let z : _≡_ {A = ℕ} 0 1 = cc in absurd (omega arith)
-above-no-hole (Whole n) e = let z : _≡_ {A = ℕ} 0 1 = cc in absurd (omega arith)
+pub one-signed : (w : List ℕ) {z : ℤ} → signed-number w ≡ Told z → w ≡ signed z
+unfolding signed-number
+one-signed w {z} e = go (starts minus w) refl e
+  where
+    go : (b : Bool) → starts minus w ≡ b → cond b (below (natural 2147483648 (drop 1 w))) (above (natural 2147483647 w)) ≡ Told z → w ≡ signed z
+    go true t e = behind-minus w t ∙ spelled-below (drop 1 w) (natural 2147483648 (drop 1 w)) refl e
+    go false t e = spelled-above w (natural 2147483647 w) refl e
 
-below-no-hole : (a : Number) → (below a ≡ Hole) → ⊥
-unfolding below
-below-no-hole (Bad wrong) e = let z : _≡_ {A = ℕ} 0 1 = cc in absurd (omega arith)
-below-no-hole (Whole zero) e = let z : _≡_ {A = ℕ} 0 1 = cc in absurd (omega arith)
-below-no-hole (Whole (suc n)) e = let z : _≡_ {A = ℕ} 0 1 = cc in absurd (omega arith)
+-- an ordinate is the number that it was narrowed from, and no number is a hole
+narrowed-told : (a : Signed) {z : ℤ} → narrowed a ≡ Given z → a ≡ Told z
+unfolding narrowed
+narrowed-told (Untold wrong) e = let z : _≡_ {A = ℕ} 0 1 = cc in absurd (omega arith)
+narrowed-told (Told y) {z} e = go (ltZ y (negsuc 32767) || ltZ (pos 32767) y) e
+  where
+    go : (b : Bool) → cond b (Wrong too-large) (Given y) ≡ Given z → Told y ≡ Told z
+    go true e = let z : _≡_ {A = ℕ} 0 1 = cc in absurd (omega arith)
+    go false e = cc
+
+narrowed-no-hole : (a : Signed) → (narrowed a ≡ Hole) → ⊥
+unfolding narrowed
+narrowed-no-hole (Untold wrong) e = let z : _≡_ {A = ℕ} 0 1 = cc in absurd (omega arith)
+narrowed-no-hole (Told y) e = go (ltZ y (negsuc 32767) || ltZ (pos 32767) y) e
+  where
+    go : (b : Bool) → (cond b (Wrong too-large) (Given y) ≡ Hole) → ⊥
+    go true e = let z : _≡_ {A = ℕ} 0 1 = cc in absurd (omega arith)
+    go false e = let z : _≡_ {A = ℕ} 0 1 = cc in absurd (omega arith)
 
 module _ (w : List ℕ) where
-  -- by the sign
-  abbrev number-of : Bool → Bool → Ordinate
-  number-of lone b = cond lone Hole (cond b (below (natural 32768 (drop 1 w))) (above (natural 32767 w)))
-
   pub one-ordinate : {z : ℤ} → ordinate w ≡ Given z → w ≡ signed z
   unfolding ordinate
-  one-ordinate {z} e = go (lone-minus w) (starts minus w) refl e
+  one-ordinate {z} e = go (lone-minus w) e
     where
-      go : (lone b : Bool) → starts minus w ≡ b → number-of lone b ≡ Given z → w ≡ signed z
-      go true b t e = let z : _≡_ {A = ℕ} 0 1 = cc in absurd (omega arith)
-      go false true t e = behind-minus w t ∙ spelled-below (drop 1 w) (natural 32768 (drop 1 w)) refl e
-      go false false t e = spelled-above w (natural 32767 w) refl e
+      go : (lone : Bool) → cond lone Hole (narrowed (signed-number w)) ≡ Given z → w ≡ signed z
+      go true e = let z : _≡_ {A = ℕ} 0 1 = cc in absurd (omega arith)
+      go false e = one-signed w (narrowed-told (signed-number w) e)
 
   is-lone : lone-minus w ≡ true → w ≡ minus ∷ []
   is-lone e =
@@ -188,9 +200,8 @@ module _ (w : List ℕ) where
 
   pub one-hole : ordinate w ≡ Hole → w ≡ minus ∷ []
   unfolding ordinate
-  one-hole e = go (lone-minus w) refl (starts minus w) e
+  one-hole e = go (lone-minus w) refl e
     where
-      go : (lone : Bool) → lone-minus w ≡ lone → (b : Bool) → number-of lone b ≡ Hole → w ≡ minus ∷ []
-      go true l b e = is-lone l
-      go false l true e = absurd (below-no-hole (natural 32768 (drop 1 w)) e)
-      go false l false e = absurd (above-no-hole (natural 32767 w) e)
+      go : (lone : Bool) → lone-minus w ≡ lone → cond lone Hole (narrowed (signed-number w)) ≡ Hole → w ≡ minus ∷ []
+      go true l e = is-lone l
+      go false l e = absurd (narrowed-no-hole (signed-number w) e)

@@ -8,18 +8,20 @@ use native.Mathlib.Nat.{pow-suc}
 use native.Mathlib.Omega.{arith}
 use lib.Dec.{ltb, eqb}
 use lib.IntN.{ℤ, pos, negsuc}
+use lib.Signed.{mag}
 use lib.ListN.{length, length-append}
 use borrow.Author.Tests.{ltb-true, ltb-false, lt-ltb, le-ltb, eq-eqb, ne-eqb}
 use Rattle.decimal.specs.Decimal.{digits, places, decimal, minus, signed}
-use mir.Syntax.{w16}
+use mir.Syntax.{w16, w32}
 use mir.Val.{SFits}
 use Rattle.decimal.proofs.Digits.{decimal-one, value-digits}
 use Rattle.split.specs.Parts.{marks, stop}
-use Rattle.numeral.specs.Number.{starts, all-digits, padded, at-most, natural, above, below, lone-minus, ordinate}
+use Rattle.numeral.specs.Number.{starts, all-digits, padded, at-most, natural, above, below, signed-number, narrowed, lone-minus, ordinate}
 use Rattle.split.specs.declared.Mark.{Mark}
 use Rattle.split.specs.declared.Mark.the-variants.{NoDigit}
 use Rattle.split.proofs.Unmarked.{unmarked-more}
 use Rattle.numeral.specs.declared.Number.the-variants.{Whole}
+use Rattle.numeral.specs.declared.Signed.the-variants.{Told}
 use Rattle.numeral.specs.declared.Ordinate.the-variants.{Given}
 use Rattle.numeral.proofs.Numbers.{is-value}
 
@@ -95,11 +97,23 @@ not-lone (pos n) f =
     rw (first-digit minus places n (omega arith) (omega arith) (omega arith)) (and-false (eqb (length (decimal n)) 1))
 not-lone (negsuc n) f = rw (ne-eqb (suc (length (decimal (suc n)))) 1 (λ e. omega (arith, some-digit 19 (suc n))))
 
-pub signed-read : (z : ℤ) → SFits w16 z → ordinate (signed z) ≡ Given z
-unfolding signed ordinate above below starts
+pub signed-read : (z : ℤ) → SFits w32 z → signed-number (signed z) ≡ Told z
+unfolding signed signed-number above below starts
 signed-read (pos n) f =
-    let l : n < 32768 = f .sfits in
-    rw (not-lone (pos n) f, first-digit minus places n (omega arith) (omega arith) (omega arith), decimal-read n (omega arith) 32767 (omega arith))
+    let l : n < 2147483648 = f .sfits in
+    rw (first-digit minus places n (omega arith) (omega arith) (omega arith), decimal-read n (omega arith) 2147483647 (omega arith))
 signed-read (negsuc n) f =
-    let l : n < 32768 = f .sfits in
-    rw (not-lone (negsuc n) f, decimal-read (suc n) (omega arith) 32768 (omega arith))
+    let l : n < 2147483648 = f .sfits in
+    rw (decimal-read (suc n) (omega arith) 2147483648 (omega arith))
+
+-- a number of 16 bits is not too large for an ordinate
+narrow-enough : (z : ℤ) → SFits w16 z → narrowed (Told z) ≡ Given z
+unfolding narrowed
+narrow-enough (pos n) f = let l : n < 32768 = f .sfits in rw (le-ltb 32767 n (omega arith))
+narrow-enough (negsuc n) f = let l : n < 32768 = f .sfits in rw (le-ltb 32767 n (omega arith))
+
+pub ordinate-read : (z : ℤ) → SFits w16 z → ordinate (signed z) ≡ Given z
+unfolding ordinate
+ordinate-read z f =
+    let l : mag z < 32768 = f .sfits in
+    rw (not-lone z f, signed-read z (record { sfits = omega arith })) (narrow-enough z f)

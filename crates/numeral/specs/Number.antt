@@ -1,11 +1,12 @@
--- Whole numbers in decimal: digits alone, none of them a zero in front, a minus before an ordinate below zero, or alone where there is a hole; and what is wrong with
--- another word.
+-- Whole numbers in decimal: digits alone, none of them a zero in front, a minus before a slope or an ordinate below zero, or alone where there is a hole; and what is
+-- wrong with another word.
 -- Assumes nothing.
 use Prim.Native.Nat.{ℕ, zero, suc}
-use mathlib.Core.Bool.{Bool, false, cond, _&&_}
+use mathlib.Core.Bool.{Bool, false, cond, _&&_, _||_}
 use mathlib.Core.List.{List, [], _∷_}
 use lib.Dec.{ltb, eqb}
 use lib.IntN.{pos, negsuc}
+use lib.Signed.{ltZ}
 use lib.ListN.{length, drop}
 use Rattle.decimal.specs.Decimal.{minus}
 use Rattle.decimal.specs.Decimal.{value}
@@ -13,6 +14,8 @@ use Rattle.split.specs.Parts.{stop}
 use Rattle.split.specs.declared.Mark.the-variants.{NoDigit, Hidden}
 use Rattle.numeral.specs.declared.Number.{Number}
 use Rattle.numeral.specs.declared.Number.the-variants.{Whole, Bad}
+use Rattle.numeral.specs.declared.Signed.{Signed}
+use Rattle.numeral.specs.declared.Signed.the-variants.{Told, Untold}
 use Rattle.numeral.specs.declared.Ordinate.{Ordinate}
 use Rattle.numeral.specs.declared.Ordinate.the-variants.{Given, Hole, Wrong}
 
@@ -46,19 +49,28 @@ at-most most n = cond (ltb most n) (Bad too-large) (Whole n)
 unfoldable pub natural : ℕ → List ℕ → Number
 natural most w = cond (all-digits w) (cond (padded w) (Bad leading-zero) (at-most most (value w))) (Bad not-whole)
 
--- an ordinate from its digits; there is no zero below zero
-unfoldable pub above : Number → Ordinate
-above (Whole n) = Given (pos n)
-above (Bad wrong) = Wrong wrong
+-- a number from its digits; there is no zero below zero
+unfoldable pub above : Number → Signed
+above (Whole n) = Told (pos n)
+above (Bad wrong) = Untold wrong
 
-unfoldable pub below : Number → Ordinate
-below (Whole zero) = Wrong leading-zero
-below (Whole (suc n)) = Given (negsuc n)
-below (Bad wrong) = Wrong wrong
+unfoldable pub below : Number → Signed
+below (Whole zero) = Untold leading-zero
+below (Whole (suc n)) = Told (negsuc n)
+below (Bad wrong) = Untold wrong
+
+-- as far as 32 bits hold it
+unfoldable pub signed-number : List ℕ → Signed
+signed-number w = cond (starts minus w) (below (natural 2147483648 (drop 1 w))) (above (natural 2147483647 w))
+
+-- an ordinate is held in 16
+unfoldable pub narrowed : Signed → Ordinate
+narrowed (Told z) = cond (ltZ z (negsuc 32767) || ltZ (pos 32767) z) (Wrong too-large) (Given z)
+narrowed (Untold wrong) = Wrong wrong
 
 abbrev pub lone-minus : List ℕ → Bool
 lone-minus w = eqb (length w) 1 && starts minus w
 
 -- a hole is a minus alone
 unfoldable pub ordinate : List ℕ → Ordinate
-ordinate w = cond (lone-minus w) Hole (cond (starts minus w) (below (natural 32768 (drop 1 w))) (above (natural 32767 w)))
+ordinate w = cond (lone-minus w) Hole (narrowed (signed-number w))

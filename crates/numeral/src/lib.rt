@@ -1,9 +1,10 @@
-// A word as a whole number in decimal: a minute, an ordinate, a number among a program's arguments. Any bytes are answered.
+// A word as a whole number in decimal: a minute, an ordinate, a slope, a number among a program's arguments. Any
+// bytes are answered.
 use split::Mark;
 ghost use mathlib.Core.Path.{_≡_};
 ghost use mathlib.Core.Bool.{true};
 ghost use Rattle.decimal.specs.Decimal.{value};
-ghost use Rattle.numeral.specs.Number.{plain, starts, all-digits, padded, at-most, natural, above, below, lone-minus, ordinate};
+ghost use Rattle.numeral.specs.Number.{plain, starts, all-digits, padded, at-most, natural, above, below, signed-number, narrowed, lone-minus, ordinate};
 
 // Whether its first byte is this one.
 pub fn starts(word: &[u8], byte: u8) -> bool
@@ -84,6 +85,47 @@ fn lone_minus(word: &[u8]) -> bool
     word.len() == 1 && starts(word, b'-')
 }
 
+// A whole number with its sign, or what is wrong with its word.
+pub enum Signed {
+    Told(i32),
+    Untold(u32),
+}
+
+impl Signed {
+    fn above(digits: &[u8]) -> Signed
+        ensures { λ r. ⌜ r ≡ above (natural 2147483647 (now (digits .entry))) ⌝ }
+    {
+        match Number::natural(digits, 2147483647) {
+            Number::Whole(n) => Signed::Told(n as i32),
+            Number::Bad(wrong) => Signed::Untold(wrong),
+        }
+    }
+
+    // The negative numbers reach one further than the others, so one goes by its complement.
+    fn below(digits: &[u8]) -> Signed
+        ensures { λ r. ⌜ r ≡ below (natural 2147483648 (now (digits .entry))) ⌝ }
+    {
+        match Number::natural(digits, 2147483648) {
+            Number::Whole(n) => {
+                if n == 0 {
+                    return Signed::Untold(Number::LEADING_ZERO);
+                }
+                Signed::Told(!((n - 1) as i32))
+            }
+            Number::Bad(wrong) => Signed::Untold(wrong),
+        }
+    }
+
+    pub fn of(word: &[u8]) -> Signed
+        ensures { λ r. ⌜ r ≡ signed-number (now (word .entry)) ⌝ }
+    {
+        if starts(word, b'-') {
+            return Signed::below(split::from(word, 1));
+        }
+        Signed::above(word)
+    }
+}
+
 // What stands in place of an ordinate; a minus alone is a hole.
 pub enum Ordinate {
     Given(i16),
@@ -92,27 +134,21 @@ pub enum Ordinate {
 }
 
 impl Ordinate {
-    fn above(digits: &[u8]) -> Ordinate
-        ensures { λ r. ⌜ r ≡ above (natural 32767 (now (digits .entry))) ⌝ }
+    // An ordinate is held in 16 bits.
+    fn narrowed(number: Signed) -> Ordinate
+        ensures { λ r. ⌜ r ≡ narrowed number ⌝ }
     {
-        match Number::natural(digits, 32767) {
-            Number::Whole(n) => Ordinate::Given(n as i16),
-            Number::Bad(wrong) => Ordinate::Wrong(wrong),
-        }
-    }
-
-    // The negative numbers reach one further than the others, so one goes by its complement.
-    fn below(digits: &[u8]) -> Ordinate
-        ensures { λ r. ⌜ r ≡ below (natural 32768 (now (digits .entry))) ⌝ }
-    {
-        match Number::natural(digits, 32768) {
-            Number::Whole(n) => {
-                if n == 0 {
-                    return Ordinate::Wrong(Number::LEADING_ZERO);
+        match number {
+            Signed::Untold(wrong) => Ordinate::Wrong(wrong),
+            Signed::Told(z) => {
+                if z < -32768 {
+                    return Ordinate::Wrong(Number::TOO_LARGE);
                 }
-                Ordinate::Given(!((n - 1) as i16))
+                if 32767 < z {
+                    return Ordinate::Wrong(Number::TOO_LARGE);
+                }
+                Ordinate::Given(z as i16)
             }
-            Number::Bad(wrong) => Ordinate::Wrong(wrong),
         }
     }
 
@@ -122,9 +158,6 @@ impl Ordinate {
         if lone_minus(word) {
             return Ordinate::Hole;
         }
-        if starts(word, b'-') {
-            return Ordinate::below(split::from(word, 1));
-        }
-        Ordinate::above(word)
+        Ordinate::narrowed(Signed::of(word))
     }
 }

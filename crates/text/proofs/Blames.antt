@@ -8,10 +8,10 @@ use lib.ListN.{length}
 use Rattle.split.specs.Parts.{until, past, words}
 use Rattle.numeral.specs.Number.{natural}
 use Rattle.curve.specs.Card.{latest}
-use Rattle.text.specs.Sheet.{blamed-of, blamed-by}
+use Rattle.text.specs.Sheet.{knot, blamed-of, blamed-third, blamed-by}
 use Rattle.split.specs.declared.Mark.the-variants.{Blank, Word}
 use Rattle.split.proofs.Words.{no-word}
-use Rattle.text.proofs.Lines.{one, two, three}
+use Rattle.text.proofs.Lines.{one, two, three, four}
 
 none-left : (s : List ℕ) → length s ≡ 0 → s ≡ []
 none-left [] e = refl
@@ -28,10 +28,20 @@ module _ (s : List ℕ) {f : List ℕ} (first : f ≡ past Word s) where
     blames-one e = rw (one s first some second, no-word (past Blank f) (rw second at e))
 
     module _ (more : length g ≡ 0 → ⊥) {h : List ℕ} (third : h ≡ past Word (past Blank g)) where
-      pub blames-two : length h ≤ 0 → blamed-of (natural latest (until Blank f)) (until Blank f) (until Blank g) ≡ blamed-by (words s)
-      unfolding blamed-by
-      blames-two l = let e : length h ≡ 0 = omega arith in rw (two s first some second more third, no-word (past Blank g) (rw third at e))
+      abbrev blamed-pair : List ℕ
+      blamed-pair = blamed-of (natural latest (until Blank f)) (until Blank f) (until Blank g)
 
-      pub blames-three : 0 < length h → until Blank h ≡ blamed-by (words s)
+      pub blames-two : length h ≡ 0 → blamed-pair ≡ blamed-by (words s)
       unfolding blamed-by
-      blames-three l = rw (three s first some second more third l)
+      blames-two e = rw (two s first some second more third, no-word (past Blank g) (rw third at e))
+
+      module _ (much : length h ≡ 0 → ⊥) {k : List ℕ} (fourth : k ≡ past Word (past Blank h)) where
+        pub blames-three : length k ≤ 0 → blamed-third (knot (until Blank f) (until Blank g)) blamed-pair (until Blank h) ≡ blamed-by (words s)
+        unfolding blamed-by
+        blames-three l =
+            let e : length k ≡ 0 = omega arith in
+            rw (three s first some second more third much fourth, no-word (past Blank h) (rw fourth at e))
+
+        pub blames-four : 0 < length k → until Blank k ≡ blamed-by (words s)
+        unfolding blamed-by
+        blames-four l = rw (four s first some second more third much fourth l)

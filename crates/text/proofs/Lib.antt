@@ -5,4 +5,5 @@ pub mod Readings
 pub mod Room
 pub mod Written
 pub mod Logs
+pub mod Slopes
 pub mod Examples

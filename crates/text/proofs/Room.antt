@@ -11,9 +11,9 @@ use lib.ListN.{length, length-set}
 use borrow.Author.Tests.{ltb-true}
 use Rattle.split.specs.Parts.{lines}
 use Rattle.holes.specs.Hole.{hole}
-use Rattle.text.specs.Sheet.{too-long, is-hole, line, most, refused, with-knot, taken, goes-on, read, longest, sheet}
+use Rattle.text.specs.Sheet.{too-long, is-hole, slopeless, odd-slope, unmended, line, most, refused, with-knot, without-slope, unsloped, sloping, taken, goes-on, read, longest, sheet}
 use Rattle.text.specs.declared.Line.{Line}
-use Rattle.text.specs.declared.Line.the-variants.{Empty, Knot, Hole, Log, Refused}
+use Rattle.text.specs.declared.Line.the-variants.{Empty, Knot, Sloped, Hole, Log, SlopedLog, Refused}
 use Rattle.text.specs.declared.Sheet.{Sheet}
 use Rattle.numeral.proofs.Values.{second}
 
@@ -21,23 +21,43 @@ pub record Roomy (a : Sheet) : Type 0 where
   pub few : a .knots ≤ most
   pub minutes : length (a .minutes) ≡ most
   pub ordinates : length (a .ordinates) ≡ most
+  pub slopes : length (a .slopes) ≡ most
   pub lines : length (a .lines) ≡ most
   pub logs : length (a .logs) ≡ most
 
 pub roomy-refused : (wrong n : ℕ) → Roomy (refused wrong n)
 unfolding refused
-roomy-refused wrong n = record { few = omega arith; minutes = refl; ordinates = refl; lines = refl; logs = refl }
+roomy-refused wrong n = record { few = omega arith; minutes = refl; ordinates = refl; slopes = refl; lines = refl; logs = refl }
 
-roomy-with-knot : {a : Sheet} → Roomy a → a .knots < most → (n x : ℕ) (y : ℤ) (log : Bool) → Roomy (with-knot a n x y log)
+roomy-with-knot : {a : Sheet} → Roomy a → a .knots < most → (n x : ℕ) (y : ℤ) (log sloped : Bool) (m : ℤ) → Roomy (with-knot a n x y log sloped m)
 unfolding with-knot
-roomy-with-knot {a} r h n x y log =
+roomy-with-knot {a} r h n x y log sloped m =
     record {
       few = omega arith;
       minutes = length-set (a .minutes) (a .knots) x ∙ r .minutes;
       ordinates = length-set (a .ordinates) (a .knots) y ∙ r .ordinates;
+      slopes = length-set (a .slopes) (a .knots) m ∙ r .slopes;
       lines = length-set (a .lines) (a .knots) n ∙ r .lines;
       logs = length-set (a .logs) (a .knots) log ∙ r .logs;
     }
+
+module _ {a : Sheet} (r : Roomy a) (h : a .knots < most) (n x : ℕ) (y : ℤ) (log : Bool) where
+  roomy-without : Roomy (without-slope a n x y log)
+  unfolding without-slope
+  roomy-without = go (a .sloped)
+    where
+      go : (b : Bool) → Roomy (cond b (refused slopeless n) (with-knot a n x y log false (pos 0)))
+      go true = roomy-refused slopeless n
+      go false = roomy-with-knot r h n x y log false (pos 0)
+
+  roomy-sloping : (mends : Bool) (m : ℤ) → Roomy (sloping mends a n x y log m)
+  unfolding sloping
+  roomy-sloping true m = roomy-refused unmended n
+  roomy-sloping false m = go (unsloped a)
+    where
+      go : (b : Bool) → Roomy (cond b (refused odd-slope n) (with-knot a n x y log true m))
+      go true = roomy-refused odd-slope n
+      go false = roomy-with-knot r h n x y log true m
 
 pub has-room : (a : Sheet) → goes-on a ≡ true → a .knots < most
 unfolding goes-on
@@ -47,9 +67,11 @@ pub roomy-taken : (mends : Bool) {a : Sheet} → Roomy a → a .knots < most →
 unfolding taken
 roomy-taken mends r h n Empty = r
 roomy-taken mends r h n (Refused wrong) = roomy-refused wrong n
-roomy-taken mends r h n (Knot x y) = roomy-with-knot r h n x y false
-roomy-taken mends r h n (Log x) = roomy-with-knot r h n x (pos 0) true
-roomy-taken true r h n (Hole x) = roomy-with-knot r h n x hole false
+roomy-taken mends r h n (Knot x y) = roomy-without r h n x y false
+roomy-taken mends r h n (Sloped x y m) = roomy-sloping r h n x y false mends m
+roomy-taken mends r h n (Log x) = roomy-without r h n x (pos 0) true
+roomy-taken mends r h n (SlopedLog x m) = roomy-sloping r h n x (pos 0) true mends m
+roomy-taken true r h n (Hole x) = roomy-without r h n x hole false
 roomy-taken false r h n (Hole x) = roomy-refused is-hole n
 
 module _ (mends : Bool) where

@@ -1,6 +1,5 @@
 -- A knot as the listing writes its first two numbers, minute and ordinate, is read as that knot; a line that is a knot has these two words and no other, one that is a hole its minute and a minus, and one
--- that is a log its minute and a '@' with a name.
--- Assumes nothing.
+-- that is a log its minute and a '@' with a name; a third word is a slope. Assumes nothing.
 use Prim.Native.Nat.{ℕ, suc, _+_, _≤_, _<_}
 use mathlib.Core.Path.{_≡_, refl, ap, _∙_}
 use mathlib.Core.Bool.{Bool, true, false, cond}
@@ -19,18 +18,20 @@ use Rattle.split.specs.declared.Mark.{Mark}
 use Rattle.split.specs.declared.Mark.the-variants.{Note, Blank, NoDigit}
 use Rattle.split.proofs.Unmarked.{stop-behind, cut, uncut}
 use Rattle.split.proofs.Words.{kept}
-use Rattle.numeral.specs.Number.{starts, natural, ordinate}
+use Rattle.numeral.specs.Number.{starts, natural, signed-number, ordinate}
 use Rattle.numeral.specs.declared.Number.{Number}
 use Rattle.numeral.specs.declared.Number.the-variants.{Whole, Bad}
+use Rattle.numeral.specs.declared.Signed.{Signed}
+use Rattle.numeral.specs.declared.Signed.the-variants.{Told, Untold}
 use Rattle.numeral.specs.declared.Ordinate.{Ordinate}
 use Rattle.numeral.specs.declared.Ordinate.the-variants.{Given, Hole as Missing, Wrong}
-use Rattle.numeral.proofs.OneSpelling.{one-spelling, one-ordinate, one-hole}
+use Rattle.numeral.proofs.OneSpelling.{one-spelling, one-signed, one-ordinate, one-hole}
 use Rattle.numeral.proofs.Numbers.{starts-some}
-use Rattle.numeral.proofs.Spelled.{No-digits, digits-unmarked, no-no-digit, some-digit, decimal-read, signed-read}
+use Rattle.numeral.proofs.Spelled.{No-digits, digits-unmarked, no-no-digit, some-digit, decimal-read, ordinate-read}
 use Rattle.curve.specs.Card.{latest}
-use Rattle.text.specs.Sheet.{nameless, at-sign, with-ordinate, behind, knot-by, knot, line-by, line, named, named-by}
+use Rattle.text.specs.Sheet.{nameless, at-sign, with-ordinate, behind, knot-by, knot, with-slope, line-by, line, named, named-by}
 use Rattle.text.specs.declared.Line.{Line}
-use Rattle.text.specs.declared.Line.the-variants.{Empty, Knot, Hole, Log, Refused}
+use Rattle.text.specs.declared.Line.the-variants.{Empty, Knot, Sloped, Hole, Log, SlopedLog, Refused}
 
 no-note : No-digits Note
 unfolding marks
@@ -85,7 +86,7 @@ no-at-sign (negsuc n) = refl
 -- a knot as the listing writes its first two numbers
 pub line-read : (x : ℕ) (y : ℤ) → x ≤ latest → SFits w16 y → line (written x y) ≡ Knot x y
 unfolding with-ordinate behind knot-by line-by line
-line-read x y l f = rw (no-comment x y, its-words x y, decimal-read x (omega arith) latest l, no-at-sign y, signed-read y f)
+line-read x y l f = rw (no-comment x y, its-words x y, decimal-read x (omega arith) latest l, no-at-sign y, ordinate-read y f)
 
 -- ---- the other way
 
@@ -94,6 +95,8 @@ abbrev Two : Line → List (List ℕ) → Type 0
 Two Empty ws = Unit {0}
 Two (Refused wrong) ws = Unit {0}
 Two (Knot n z) ws = ws ≡ decimal n ∷ signed z ∷ []
+Two (Sloped n z m) ws = ws ≡ decimal n ∷ signed z ∷ signed m ∷ []
+Two (SlopedLog n m) ws = (ws ≡ decimal n ∷ (at-sign ∷ named-by ws) ∷ signed m ∷ []) × (0 < length (named-by ws))
 Two (Hole n) ws = ws ≡ decimal n ∷ (minus ∷ []) ∷ []
 Two (Log n) ws = (ws ≡ decimal n ∷ (at-sign ∷ named-by ws) ∷ []) × (0 < length (named-by ws))
 
@@ -130,16 +133,34 @@ two-of-knot x w = go (natural latest x) refl
     go (Bad wrong) d = tt
     go (Whole n) d = rw (one-spelling latest x (lit< tt) d) (two-behind n w)
 
+-- behind two words
+module _ (x w v : List ℕ) where
+  third-word : (l : Line) → Two l (x ∷ w ∷ []) → (a : Signed) → signed-number v ≡ a → Two (with-slope l a) (x ∷ w ∷ v ∷ [])
+  unfolding with-slope named-by
+  third-word Empty t a e = tt
+  third-word (Refused wrong) t a e = tt
+  third-word (Hole n) t a e = tt
+  third-word (Knot n z) t (Untold wrong) e = tt
+  third-word (Knot n z) t (Told m) e = rw (← one-signed v e) (ap (λ ws. ws ++ (v ∷ [])) t)
+  third-word (Log n) t (Untold wrong) e = tt
+  third-word (Log n) t (Told m) e = (rw (← one-signed v e) (ap (λ ws. ws ++ (v ∷ [])) (t .0)), t .1)
+  third-word (Sloped n z m) t a e = absurd (let f : _≡_ {A = ℕ} 2 3 = ap length t in omega arith)
+  third-word (SlopedLog n m) t a e = absurd (let f : _≡_ {A = ℕ} 2 3 = ap length (t .0) in omega arith)
+
 two-words : (ws : List (List ℕ)) → Two (line-by ws) ws
 unfolding line-by
 two-words [] = tt
 two-words (x ∷ []) = tt
 two-words (x ∷ w ∷ []) = two-of-knot x w
-two-words (x ∷ w ∷ v ∷ ws) = tt
+two-words (x ∷ w ∷ v ∷ []) = third-word x w v (knot x w) (two-of-knot x w) (signed-number v) refl
+two-words (x ∷ w ∷ v ∷ u ∷ ws) = tt
 
 module _ (ws : List (List ℕ)) {n : ℕ} where
   pub knot-is-two-words : {z : ℤ} → line-by ws ≡ Knot n z → ws ≡ decimal n ∷ signed z ∷ []
   knot-is-two-words e = rw e at (two-words ws)
+
+  pub sloped-is-three-words : {z m : ℤ} → line-by ws ≡ Sloped n z m → ws ≡ decimal n ∷ signed z ∷ signed m ∷ []
+  sloped-is-three-words e = rw e at (two-words ws)
 
   pub hole-is-two-words : line-by ws ≡ Hole n → ws ≡ decimal n ∷ (minus ∷ []) ∷ []
   hole-is-two-words e = rw e at (two-words ws)
@@ -147,3 +168,6 @@ module _ (ws : List (List ℕ)) {n : ℕ} where
   -- the second is a '@' and the name, which has a byte
   pub log-is-two-words : line-by ws ≡ Log n → (ws ≡ decimal n ∷ (at-sign ∷ named-by ws) ∷ []) × (0 < length (named-by ws))
   log-is-two-words e = rw e at (two-words ws)
+
+  pub sloped-log-is-three-words : {m : ℤ} → line-by ws ≡ SlopedLog n m → (ws ≡ decimal n ∷ (at-sign ∷ named-by ws) ∷ signed m ∷ []) × (0 < length (named-by ws))
+  sloped-log-is-three-words e = rw e at (two-words ws)
