@@ -20,7 +20,7 @@ said words = spelled words ++ (10 ∷ [])
 pub refusals :
     (refused-line 4 2 4 ≡ said ":4: knot 2: refused 4: minute is not above the one before") × (refused-line 1 0 0 ≡ said ": refused 1: fewer than 3 knots")
     × (refused-line 14 90 0 ≡ said ": byte 90: refused 14: record is cut short, of the wrong kind or length, or bytes follow the end")
-    × (refused-line 15 1 0 ≡ said ": end 1: refused 15: code of this end (0 left, 1 right) is not 0, 1 or 2")
+    × (refused-line 15 1 0 ≡ said ": end 1: refused 15: code of this end (0 left, 1 right) is not 0, 1 or 2, or not 0 where slopes are given")
     × (refused-line 17 0 2 ≡ said ":2: knot 0: refused 17: hole has no sound knot on one side") × (refused-line 18 0 0 ≡ said ": refused 18: list of changes has fewer places than there are holes")
     × (refused-line 20 0 0 ≡ said ": refused 20: room is not in the book") × (refused-line 21 0 0 ≡ said ": refused 21: book would be over 16384 bytes, or over the lent buffer")
     × (refused-line 22 16 0 ≡ said ": byte 16: refused 22: room number is not above the one before")

@@ -49,7 +49,7 @@ pub fn put_sentence(to: &mut [u8], at: usize, table: Table, n: u32) -> usize
             log byte is from 201 to 254\n\
             log has no good byte\n\
             record is cut short, of the wrong kind or length, or bytes follow the end\n\
-            code of this end (0 left, 1 right) is not 0, 1 or 2\n\
+            code of this end (0 left, 1 right) is not 0, 1 or 2, or not 0 where slopes are given\n\
             log has not 1 to 60 bytes\n\
             hole has no sound knot on one side\n\
             list of changes has fewer places than there are holes\n\
@@ -107,7 +107,7 @@ pub fn put_sentence(to: &mut [u8], at: usize, table: Table, n: u32) -> usize
             look at that knot's number: 100 % is 10000\n\
             give the end's slope and curvature in hundredths per minute (squared), not in card units\n\
             no input is known that does this: keep the sheet and report it\n\
-            the curve is too steep there: knots too close for so large a step; or a number on the card was changed\n\
+            the curve is too steep there: knots too close for so large a step; or a slope in the sheet is not in card units; or a number on the card was changed\n\
             the numbers at or beside that knot do not belong together: one was changed, or an end has another code than in its fit; make the card anew; if a fit says it, keep the sheet and report it\n\
             it is before the first knot or after the last; a log's knot stands in its middle, so the first log's first half and the last log's second half are not on the card\n\
             the log is damaged at that byte; of a log in a sheet, whose place is the knot, kaihveto mean says the byte\n\
@@ -135,10 +135,14 @@ pub fn put_sentence(to: &mut [u8], at: usize, table: Table, n: u32) -> usize
             has a zero or a sign too many: write 50 for 050, and 0 for -0\n\
             is too large: a minute is at most 65535, an ordinate from -32768 to 32767\n\
             stands alone: a knot is a minute and an ordinate, or a minute and @FILE for a log\n\
-            is one word too many: a knot is a minute and an ordinate, or a minute and @FILE for a log, whose name has no blank here\n\
+            is one word too many: a knot is a minute, an ordinate or @FILE for a log, whose name has no blank here, and behind that its slope if it has one\n\
             is longer than 65535 bytes: no sheet is\n\
             is a hole: kaihveto mend fills it\n\
-            asks for the name of a log's file: write MINUTE @FILE\n",
+            asks for the name of a log's file: write MINUTE @FILE\n\
+            is no slope: behind an ordinate or @FILE, whose name has no blank here, stands nothing or a whole number of card units, with no zero in front\n\
+            has no slope behind it, and the knots before have one: give every knot its slope in card units, or none\n\
+            is a slope, and the knots before have none: give every knot its slope in card units, or none\n\
+            is a slope: kaihveto mend takes a sheet without slopes\n",
             n,
         ),
     }
