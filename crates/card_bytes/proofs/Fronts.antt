@@ -1,4 +1,5 @@
--- What stands behind the longest card of a kind, and one byte more, decides nothing: longer bytes are judged as their front is. Assumes nothing.
+-- What stands behind the longest card of a kind, and one byte more, decides nothing: longer bytes are judged
+-- as their front is, and as the same kind of card. Assumes nothing.
 use Prim.Native.Nat.{ℕ, _+_, _≤_, _<_}
 use mathlib.Core.Path.{_≡_, sym, ap, ap₂, _∙_}
 use mathlib.Core.Bool.{not}
@@ -11,15 +12,16 @@ use Rattle.answer.specs.Answer.{accepted, refuse}
 use Rattle.answer.proofs.Steps.{then-same, each-same, next-accepts, refuse-accepts}
 use Rattle.bytes.proofs.Fronts.{number-in-front}
 use Rattle.record.proofs.Fronts.{record-in-front}
-use Rattle.curve.specs.Kind.{Kind}
+use Rattle.curve.specs.Kind.{Kind, quintic}
 use Rattle.curve.specs.Card.{knots}
 use Rattle.curve.specs.Steps.{size, counted, codes}
 use Rattle.curve.specs.Orders.{card-order}
 use Rattle.card_bytes.specs.Held.{start, card-of}
-use Rattle.card_bytes.specs.Records.{due, head-due, knot-due, end-due, records-due, card-verdict}
+use Rattle.card_bytes.specs.Records.{due, head-due, knot-due, end-due, records-due, kind-by, card-verdict}
 use Rattle.card_bytes.proofs.Standing.{knots-of}
+use Rattle.card_bytes.proofs.ByHead.{known-by, limits, kind-in-front}
 
-module _ (K : Kind) (head n : ℕ) (enough : size (K .most-knots) < n) (s : List ℕ) (longer : n < length s) where
+module _ (K : Kind) (n : ℕ) (enough : size (K .most-knots) < n) (s : List ℕ) (longer : n < length s) where
   abbrev front : List ℕ
   front = take n s
 
@@ -45,10 +47,10 @@ module _ (K : Kind) (head n : ℕ) (enough : size (K .most-knots) < n) (s : List
     unfolding records-due end-due
     never-whole e = omega (arith, ltb-false (size k) (length s) (refuse-accepts 14 (size k) _ (next-accepts _ _ (next-accepts _ _ e))))
 
-  pub front-decides : card-verdict K head front ≡ card-verdict K head s
+  pub front-decides : card-verdict K front ≡ card-verdict K s
   unfolding card-verdict card-order
   front-decides =
-      then-same (unfold head-due in due-same 0 head 6 (omega arith))
+      then-same (unfold head-due in due-same 0 (K .head) 6 (omega arith))
       (λ headed. then-same (ap (counted K) count-same)
       (λ e. let few = many e in
       then-same coded
@@ -59,3 +61,8 @@ module _ (K : Kind) (head n : ℕ) (enough : size (K .most-knots) < n) (s : List
 
       coded : codes K (card-of front .left) (card-of front .right) ≡ codes K (card-of s .left) (card-of s .right)
       coded = unfold card-of in ap₂ (codes K) (number-in-front n s 2 6 (omega arith)) (number-in-front n s 2 8 (omega arith))
+
+pub front-decides-by-head : (n : ℕ) → size (quintic .most-knots) < n → (s : List ℕ) → n < length s → card-verdict (kind-by (take n s)) (take n s) ≡ card-verdict (kind-by s) s
+front-decides-by-head n enough s longer =
+    let e : kind-by s .most-knots ≡ quintic .most-knots = limits (known-by s) .most in
+    ap (λ K. card-verdict K (take n s)) (kind-in-front n s (omega arith) (omega arith)) ∙ front-decides (kind-by s) n (omega arith) s longer

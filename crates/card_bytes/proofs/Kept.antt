@@ -18,7 +18,8 @@ use Rattle.bytes.specs.Numbers.{le, numAt, signedBytes}
 use Rattle.record.specs.Record.{header, isAt}
 use Rattle.bytes.proofs.Numbers.{length-le, stood}
 use Rattle.bytes.proofs.Signs.{length-signed, stood-signed}
-use Rattle.record.proofs.Records.{header-stands}
+use Rattle.record.proofs.Records.{Headed, header-stands}
+use Rattle.curve.specs.Kind.{Kind}
 use Rattle.curve.specs.Card.{Knot, Card, knots, knot}
 use Rattle.curve.specs.Steps.{size}
 use Rattle.card_bytes.specs.Bytes.{head-bytes, knot-bytes, end-bytes, rows, knot-row, bytes-of}
@@ -123,30 +124,42 @@ card-is s c h n l r k =
     Ms : listed (curvature-at s) (count-at s) ≡ c .curvatures
     Ms = listed-is (pos 0) (curvature-at s) (c .curvatures) n (h .curvatures) (λ j g. ap (λ (a : Knot). a .M) (k j g))
 
-pub record Kept (head : ℕ) (c : Card) : Type 0 where
-  pub whole : Whole head (bytes-of head c) (knots c)
-  pub card : card-of (bytes-of head c) ≡ c
+pub record Kept (K : Kind) (c : Card) : Type 0 where
+  pub whole : Whole (K .head) (bytes-of K c) (knots c)
+  pub card : card-of (bytes-of K c) ≡ c
 
-pub kept : (head : ℕ) (c : Card) → head < 2 ^ 16 → Lent c → Kept head c
-unfolding bytes-of head-bytes
-kept head c small h =
-    let n = knots c in
-    let s = bytes-of head c in
-    let z = rows (knot-row c) 0 n ++ end-bytes in
-    let r1 = le 2 n ++ (le 2 (c .left) ++ (le 2 (c .right) ++ z)) in
-    let q : s ≡ header head 6 ++ r1 = simp append-assoc in
-    let l : 6 ≤ length r1 = simp (length-append, length-le) (omega arith) in
-    let p = header-stands s 0 head 6 r1 small (lit< tt) l q in
-    let count = stood s 4 2 6 refl n (le 2 (c .left) ++ (le 2 (c .right) ++ z)) (lit< tt) (h .count) (p .tail) in
-    let left = stood s 6 2 8 refl (c .left) (le 2 (c .right) ++ z) (lit< tt) (h .numbers .left) (count .tail) in
-    let right = stood s 8 2 10 refl (c .right) z (lit< tt) (h .numbers .right) (left .tail) in
-    let r = rest s c (h .numbers .typed) n 0 (right .tail) in
-    record {
-      whole = record {
-        headed = p .is;
-        knotted = λ i g. r .read i (omega arith) (omega arith) .is;
-        ended = rw zero-add at (r .ended);
-        nothing-behind = omega (arith, r .nothing-behind);
-      };
-      card = card-is s c h (count .number) (left .number) (right .number) (λ j g. r .read j (omega arith) (omega arith) .knot);
-    }
+module _ (K : Kind) (c : Card) (small : K .head < 2 ^ 16) where
+  abbrev s : List ℕ
+  s = bytes-of K c
+
+  abbrev n : ℕ
+  n = knots c
+
+  abbrev behind-codes : List ℕ
+  behind-codes = rows (knot-row c) 0 n ++ end-bytes
+
+  abbrev behind-header : List ℕ
+  behind-header = le 2 n ++ (le 2 (c .left) ++ (le 2 (c .right) ++ behind-codes))
+
+  -- the kind of card stands in the head, whatever the card's numbers are
+  pub head-stands : Headed s 0 (K .head) 6 behind-header
+  unfolding bytes-of head-bytes
+  head-stands = header-stands s 0 (K .head) 6 behind-header small (lit< tt) (simp (length-append, length-le) (omega arith)) (simp append-assoc)
+
+  pub kept : Lent c → Kept K c
+  kept h =
+      let z = behind-codes in
+      let p = head-stands in
+      let count = stood s 4 2 6 refl n (le 2 (c .left) ++ (le 2 (c .right) ++ z)) (lit< tt) (h .count) (p .tail) in
+      let left = stood s 6 2 8 refl (c .left) (le 2 (c .right) ++ z) (lit< tt) (h .numbers .left) (count .tail) in
+      let right = stood s 8 2 10 refl (c .right) z (lit< tt) (h .numbers .right) (left .tail) in
+      let r = rest s c (h .numbers .typed) n 0 (right .tail) in
+      record {
+        whole = record {
+          headed = p .is;
+          knotted = λ i g. r .read i (omega arith) (omega arith) .is;
+          ended = rw zero-add at (r .ended);
+          nothing-behind = omega (arith, r .nothing-behind);
+        };
+        card = card-is s c h (count .number) (left .number) (right .number) (λ j g. r .read j (omega arith) (omega arith) .knot);
+      }

@@ -4,5 +4,7 @@ pub mod Standing
 pub mod Made
 pub mod Kept
 pub mod RoundTrip
+pub mod ByHead
 pub mod Table3
+pub mod Sloped
 pub mod Fronts

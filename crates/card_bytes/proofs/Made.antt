@@ -14,6 +14,7 @@ use Rattle.record.specs.Record.{isAt}
 use Rattle.bytes.proofs.Numbers.{peel}
 use Rattle.bytes.proofs.Signs.{peel-signed}
 use Rattle.record.proofs.Records.{standing, header-made}
+use Rattle.curve.specs.Kind.{Kind}
 use Rattle.curve.specs.Card.{knot}
 use Rattle.card_bytes.specs.Bytes.{head-bytes, knot-bytes, end-bytes, rows, knot-row, bytes-of}
 use Rattle.card_bytes.specs.Held.{start, minute-at, ordinate-at, slope-at, curvature-at, knot-at, count-at, card-of}
@@ -66,8 +67,8 @@ module _ (s : List ℕ) (b : Bytes s) where
         getD-listed (curvature-at s) (pos 0) (count-at s) i l,
       )
 
-  pub made : {head : ℕ} → Whole head s (count-at s) → s ≡ bytes-of head (card-of s)
+  pub made : (K : Kind) → Whole (K .head) s (count-at s) → s ≡ bytes-of K (card-of s)
   unfolding bytes-of card-of
-  made {head} w =
+  made K w =
       rw (knots-of s, ← rows-alike (count-at s) 0 (count-at s) (omega arith) same-row)
-      (head-made head (w .headed) ∙ rw (rows-made w (count-at s) 0 (omega arith)))
+      (head-made (K .head) (w .headed) ∙ rw (rows-made w (count-at s) 0 (omega arith)))

@@ -1,5 +1,6 @@
--- The round trip of a card's bytes (document 01, "Card bytes" and the orders of "Numbers of refusal"), for every kind of card and whatever its head's kind:
--- what was written is read back and judged as the lists are; and accepted bytes are those that the writer makes of the card that they hold.
+-- The round trip of a card's bytes (document 01, "Card bytes" and the orders of "Numbers of refusal"), for
+-- every kind of card: what was written is read back and judged as the lists are; and accepted bytes are those
+-- that the writer makes of the card that they hold.
 -- Assumes nothing.
 use Prim.Native.Nat.{ℕ, _^_, _≤_, _<_}
 use mathlib.Core.Path.{_≡_, refl, _∙_}
@@ -30,14 +31,14 @@ same-lengths : {n ys ms Ms : ℕ} → ys ≡ n → ms ≡ n → Ms ≡ n → len
 unfolding lengths
 same-lengths {n} y m M = accepts-refuse 3 0 (rw (y, m, M, eq-eqb n n refl))
 
-module _ (K : Kind) (head : ℕ) where
+module _ (K : Kind) where
   -- ---- what was written
 
   -- its check is the check of the lists
-  pub judged-alike : (c : Card) → head < 2 ^ 16 → Lent c → card-verdict K head (bytes-of head c) ≡ verdict K c
+  pub judged-alike : (c : Card) → K .head < 2 ^ 16 → Lent c → card-verdict K (bytes-of K c) ≡ verdict K c
   unfolding card-verdict card-order verdict _then_
   judged-alike c small h =
-      let k = kept head c small h in
+      let k = kept K c small h in
       rw (k .card, whole-headed (k .whole), whole-recorded (k .whole), same-lengths (h .ordinates) (h .slopes) (h .curvatures))
 
   -- lists of numbers of their types that are accepted have one length
@@ -47,18 +48,18 @@ module _ (K : Kind) (head : ℕ) where
       record { numbers = h; count = omega (arith, g .many); ordinates = g .ys; slopes = g .ms; curvatures = g .Ms }
 
   pub record Returned (c : Card) : Type 0 where
-    pub card : card-of (bytes-of head c) ≡ c
-    pub accepts : card-verdict K head (bytes-of head c) ≡ accepted
+    pub card : card-of (bytes-of K c) ≡ c
+    pub accepts : card-verdict K (bytes-of K c) ≡ accepted
 
-  pub read-written : (c : Card) → head < 2 ^ 16 → K .most-knots < 2 ^ 16 → Numbers c → verdict K c ≡ accepted → Returned c
+  pub read-written : (c : Card) → K .head < 2 ^ 16 → K .most-knots < 2 ^ 16 → Numbers c → verdict K c ≡ accepted → Returned c
   read-written c small few h e =
       let l = lent c few h e in
-      record { card = kept head c small l .card; accepts = judged-alike c small l ∙ e }
+      record { card = kept K c small l .card; accepts = judged-alike c small l ∙ e }
 
   -- ---- accepted bytes
 
-  module _ (s : List ℕ) (e : card-verdict K head s ≡ accepted) where
-    pub accepted-whole : Whole head s (count-at s)
+  module _ (s : List ℕ) (e : card-verdict K s ≡ accepted) where
+    pub accepted-whole : Whole (K .head) s (count-at s)
     unfolding card-verdict card-order
     accepted-whole = whole (first-accepts _ _ e) (rw (knots-of s) at (first-accepts _ _ (next-accepts _ _ (next-accepts _ _ (next-accepts _ _ e)))))
 
@@ -66,7 +67,7 @@ module _ (K : Kind) (head : ℕ) where
     unfolding card-verdict card-order verdict knots card-of
     accepted-card =
         let n = count-at s in
-        let e1 = next-accepts (head-due head s) _ e in
+        let e1 = next-accepts (head-due (K .head) s) _ e in
         let e2 = next-accepts (counted K _) _ e1 in
         let x = length-listed (minute-at s) n in
         both-accept
@@ -74,8 +75,8 @@ module _ (K : Kind) (head : ℕ) where
         (both-accept (first-accepts _ _ e1) (both-accept (first-accepts _ _ e2) (next-accepts _ _ (next-accepts _ _ e2))))
 
     -- the writer makes them again of the card that they hold
-    pub written-again : Bytes s → s ≡ bytes-of head (card-of s)
-    written-again b = made s b accepted-whole
+    pub written-again : Bytes s → s ≡ bytes-of K (card-of s)
+    written-again b = made s b K accepted-whole
 
     pub accepted-size : length s ≡ size (knots (card-of s))
     accepted-size = rw (knots-of s) (whole-size accepted-whole)
@@ -85,6 +86,6 @@ module _ (K : Kind) (head : ℕ) where
     pub demand-3-of-bytes : 2 ≤ K .fewest-knots → Demand3 K (card-of s)
     demand-3-of-bytes some = demand-3 K (card-of s) some accepted-card
 
-    pub reads-its-card : (minute : ℕ) → reading-order (card-verdict K head s) (card-of s) minute ≡ reading K (card-of s) minute
+    pub reads-its-card : (minute : ℕ) → reading-order (card-verdict K s) (card-of s) minute ≡ reading K (card-of s) minute
     unfolding reading reading-order _then_
     reads-its-card minute = rw (e, accepted-card)

@@ -7,6 +7,7 @@ use lib.ListN.{length, length-append}
 use Rattle.record.specs.Record.{header}
 use Rattle.bytes.proofs.Numbers.{length-le}
 use Rattle.bytes.proofs.Signs.{length-signed}
+use Rattle.curve.specs.Kind.{Kind}
 use Rattle.curve.specs.Card.{Knot, Card, knots}
 use Rattle.curve.specs.Steps.{size}
 use Rattle.card_bytes.specs.Bytes.{head-bytes, knot-bytes, end-bytes, rows, knot-row, bytes-of}
@@ -28,8 +29,8 @@ pub length-knots : (c : Card) (n : ℕ) → length (rows (knot-row c) 0 n) ≡ 1
 unfolding knot-row
 length-knots c n = length-rows (knot-row c) 16 (λ i. length-knot _) 0 n
 
-pub length-card : (head : ℕ) (c : Card) → length (bytes-of head c) ≡ size (knots c)
+pub length-card : (K : Kind) (c : Card) → length (bytes-of K c) ≡ size (knots c)
 unfolding bytes-of
-length-card head c =
+length-card K c =
     simp length-append
-    (omega (arith, length-head head (knots c) (c .left) (c .right), length-knots c (knots c), length-end))
+    (omega (arith, length-head (K .head) (knots c) (c .left) (c .right), length-knots c (knots c), length-end))

@@ -1,4 +1,4 @@
--- Document 01, "Card bytes": the bytes of a card, record after record.
+-- Document 01, "Card bytes": the bytes of a card, record after record, for every kind of card.
 -- Assumes nothing.
 use Prim.Native.Nat.{ℕ, zero, suc}
 use mathlib.Core.List.{List, [], _++_}
@@ -6,11 +6,8 @@ use lib.IntN.{ℤ}
 use mir.Syntax.{w16, w32}
 use Rattle.bytes.specs.Numbers.{le, signedBytes}
 use Rattle.record.specs.Record.{header}
+use Rattle.curve.specs.Kind.{Kind}
 use Rattle.curve.specs.Card.{Knot, Card, knots, knot}
-
--- "Kind 1": the kind of the head says what kind of card follows
-abbrev pub quintic-head : ℕ
-quintic-head = 1
 
 -- "length 6: n, left code, right code (2 each)"
 unfoldable pub head-bytes : ℕ → ℕ → ℕ → ℕ → List ℕ
@@ -35,6 +32,6 @@ rows f i (suc k) = f i ++ rows f (suc i) k
 unfoldable pub knot-row : Card → ℕ → List ℕ
 knot-row c i = knot-bytes (knot c i)
 
--- "Then n of kind 2", "Then kind 3", "Nothing follows"
-unfoldable pub bytes-of : ℕ → Card → List ℕ
-bytes-of head c = head-bytes head (knots c) (c .left) (c .right) ++ (rows (knot-row c) 0 (knots c) ++ end-bytes)
+-- "Then n of kind 2", "Then kind 3", "Nothing follows"; the head's own kind is that of the kind of card
+unfoldable pub bytes-of : Kind → Card → List ℕ
+bytes-of K c = head-bytes (K .head) (knots c) (c .left) (c .right) ++ (rows (knot-row c) 0 (knots c) ++ end-bytes)

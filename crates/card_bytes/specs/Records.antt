@@ -1,13 +1,16 @@
--- Document 01, "Numbers of refusal": 14 at a card's records, and the order of a card's bytes.
+-- Document 01, "Numbers of refusal": 14 at a card's records, which kind of card a head opens, and the order of
+-- a card's bytes.
 -- Assumes nothing.
 use Prim.Native.Nat.{ℕ}
-use mathlib.Core.Bool.{not}
+use mathlib.Core.Path.{_≡_}
+use mathlib.Core.Logic.{_⊎_}
+use mathlib.Core.Bool.{not, cond}
 use mathlib.Core.List.{List}
 use lib.Dec.{ltb}
 use lib.ListN.{length}
 use Rattle.answer.specs.Answer.{Verdict, _then_, refuse, each}
 use Rattle.record.specs.Record.{isAt}
-use Rattle.curve.specs.Kind.{Kind}
+use Rattle.curve.specs.Kind.{Kind, quintic, sloped}
 use Rattle.curve.specs.Card.{knots}
 use Rattle.curve.specs.Steps.{size}
 use Rattle.curve.specs.Orders.{card-order}
@@ -35,6 +38,15 @@ records-due s n =
     each (knot-due s) 0 n
     then end-due s n
 
--- "Card: head 14; 1, 2; 15; the other records 14; per knot 4, 5, 6; 9; 10." `head` is the kind of that kind of card's head.
-unfoldable pub card-verdict : Kind → ℕ → List ℕ → Verdict
-card-verdict K head s = card-order K (head-due head s) (records-due s (knots (card-of s))) (card-of s)
+-- the kind of card that bytes open with: order 8's where its head stands; else document 01's, whose head is
+-- then due
+unfoldable pub kind-by : List ℕ → Kind
+kind-by s = cond (isAt s 0 (sloped .head) 6) sloped quintic
+
+-- the kinds of card that there are
+abbrev pub Known : Kind → Type 0
+Known K = (K ≡ quintic) ⊎ (K ≡ sloped)
+
+-- "Card: head 14; 1, 2; 15; the other records 14; per knot 4, 5, 6; 9; 10."
+unfoldable pub card-verdict : Kind → List ℕ → Verdict
+card-verdict K s = card-order K (head-due (K .head) s) (records-due s (knots (card-of s))) (card-of s)
