@@ -19,9 +19,6 @@ pub struct Card {
 }
 
 impl Card {
-    // The kind of a head, by the kind of card that it opens.
-    pub const QUINTIC: u16 = 1;
-
     // Of no knots.
     pub fn none() -> Card
         ensures { λ r. ⌜ r ≡ none ⌝ }

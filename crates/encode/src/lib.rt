@@ -1,9 +1,12 @@
-// The bytes of a card, record by record, at the front of a buffer that has room for them: document 01, "Card bytes".
+// The bytes of a card of any kind, record by record, at the front of a buffer that has room for them: document
+// 01, "Card bytes".
+use knots::Kind;
 ghost use mathlib.Core.Path.{_≡_};
 ghost use Prim.Native.Nat.{_+_, _^_, _≤_, _<_};
 ghost use lib.ListN.{length};
 ghost use lib.Seq.{sets};
 ghost use Rattle.curve.specs.Steps.{size};
+ghost use Rattle.knots.specs.Kinds.{kind-of};
 ghost use Rattle.knots.specs.Lent.{lent};
 ghost use Rattle.card_bytes.specs.Bytes.{head-bytes, a-knot, knot-bytes, end-bytes, bytes-of};
 
@@ -40,7 +43,7 @@ fn put_end(buffer: &mut [u8], at: usize)
 
 // A card's bytes at the front of a buffer that has room for them.
 pub fn put_card(
-    head: u16,
+    kind: Kind,
     minutes: &[u16],
     ordinates: &[i16],
     slopes: &[i32],
@@ -52,10 +55,10 @@ pub fn put_card(
     requires { ⌜ length (now minutes) < 2 ^ 16 ⌝ }
     requires { ⌜ (length (now ordinates) ≡ length (now minutes)) × (length (now slopes) ≡ length (now minutes)) × (length (now curvatures) ≡ length (now minutes)) ⌝ }
     requires { ⌜ size (length (now minutes)) ≤ length (now buffer) ⌝ }
-    ensures { λ _. ⌜ now (buffer .exit) ≡ sets (now (buffer .entry)) 0 (bytes-of head (lent (now (minutes .entry)) (now (ordinates .entry)) (now (slopes .entry)) (now (curvatures .entry)) left right)) ⌝ }
+    ensures { λ _. ⌜ now (buffer .exit) ≡ sets (now (buffer .entry)) 0 (bytes-of (kind-of kind) (lent (now (minutes .entry)) (now (ordinates .entry)) (now (slopes .entry)) (now (curvatures .entry)) left right)) ⌝ }
 {
     let n = minutes.len();
-    put_head(buffer, head, n as u16, left, right);
+    put_head(buffer, kind.head, n as u16, left, right);
     let mut row: usize = 0;
     while row < n {
         put_knot(

@@ -21,11 +21,11 @@ use Rattle.encode.proofs.put_card.Statement.{statement}
 use Rattle.encode.proofs.put_card.Tie as tie
 
 abbrev Inv-loop : tie.InvT-loop
-Inv-loop head minutes ordinates slopes curvatures left right buffer₀ n row₀ buffer row =
+Inv-loop minutes ordinates slopes curvatures left right buffer₀ n row₀ buffer row =
     (row ≤ n) × (length buffer ≡ length buffer₀) × (buffer ≡ sets buffer₀ 10 (rows (knot-row (lent minutes ordinates slopes curvatures left right)) 0 row))
 
 abbrev μ-loop : tie.MeasureT-loop
-μ-loop head minutes ordinates slopes curvatures left right buffer₀ n row₀ buffer row = n - row
+μ-loop minutes ordinates slopes curvatures left right buffer₀ n row₀ buffer row = n - row
 
 loop-holds : tie.Need-loop-holds Inv-loop μ-loop
 unfolding rows
@@ -58,7 +58,7 @@ returns c =
     let e : l .loop .row ≡ n = omega arith in
     let h = l .before .before .before .put-head in
     let p : l .loop .buffer ≡ sets (h .last .0) 10 (rows (knot-row k) 0 n) = rw e at (l .loop .inv .2) in
-    then (now (a .buffer)) 0 (head-bytes (a .head) n (a .left) (a .right)) (rows (knot-row k) 0 n ++ end-bytes) 10 (length-head (a .head) n (a .left) (a .right)) (h .ensures)
+    then (now (a .buffer)) 0 (head-bytes (a .kind .head) n (a .left) (a .right)) (rows (knot-row k) 0 n ++ end-bytes) 10 (length-head (a .kind .head) n (a .left) (a .right)) (h .ensures)
     (then (h .last .0) 10 (rows (knot-row k) 0 n) end-bytes (16 * n) (length-knots k n) p (c .before .before .put-end .ensures))
 
 pub put-card-spec : {M : Type 1} → statement M
