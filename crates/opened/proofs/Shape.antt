@@ -21,15 +21,15 @@ use Rattle.decode.specs.Decoded.{most}
 use Rattle.opened.specs.Steps.{limited, behind-head, shaped}
 
 -- the same steps, bracketed as the definitions have them
-pub card-verdict-is : (K : Kind) (head : ℕ) (s : List ℕ) → (shaped K head s then sound K (card-of s)) ≡ card-verdict K head s
+pub card-verdict-is : (K : Kind) (s : List ℕ) → (shaped K s then sound K (card-of s)) ≡ card-verdict K s
 unfolding shaped behind-head limited card-verdict card-order card-of
-card-verdict-is K head s =
+card-verdict-is K s =
     let n = count-at s in
     let left = numAt 2 s 6 in
     let right = numAt 2 s 8 in
-    then-assoc (head-due head s) (behind-head K s) _
-    ∙ ap (λ v. head-due head s then v) (then-assoc (limited K n left right) (records-due s n) _ ∙ then-assoc (counted K n) (codes K left right) _)
-    ∙ ap (λ n. head-due head s then (counted K n then (codes K left right then (records-due s n then sound K (card-of s))))) (sym (knots-of s))
+    then-assoc (head-due (K .head) s) (behind-head K s) _
+    ∙ ap (λ v. head-due (K .head) s then v) (then-assoc (limited K n left right) (records-due s n) _ ∙ then-assoc (counted K n) (codes K left right) _)
+    ∙ ap (λ n. head-due (K .head) s then (counted K n then (codes K left right then (records-due s n then sound K (card-of s))))) (sym (knots-of s))
 
 -- ---- what an acceptance leaves
 
@@ -42,10 +42,10 @@ pub quintic-few : quintic .most-knots ≤ most
 unfolding quintic
 quintic-few = lit≤ tt
 
-module _ (K : Kind) (few : K .most-knots ≤ most) (head : ℕ) (s : List ℕ) where
-  pub shape-room : shaped K head s ≡ accepted → (count-at s ≤ most) × (start (count-at s) ≤ length s)
+module _ (K : Kind) (few : K .most-knots ≤ most) (s : List ℕ) where
+  pub shape-room : shaped K s ≡ accepted → (count-at s ≤ most) × (start (count-at s) ≤ length s)
   unfolding shaped behind-head limited counted
   shape-room e =
-      let b = next-accepts (head-due head s) _ e in
+      let b = next-accepts (head-due (K .head) s) _ e in
       let n = ltb-false (K .most-knots) (count-at s) (refuse-accepts 2 0 _ (next-accepts _ _ (first-accepts _ _ (first-accepts _ _ b)))) in
       (omega arith, omega (arith, whole-size (whole (first-accepts _ _ e) (next-accepts _ _ b))))
