@@ -1,67 +1,48 @@
--- What the answers and the lent lists are, from what the code has: an opened card, the verdict, and the lists that were given.
--- Assumes nothing.
+-- What the answers and the lent lists are, from what the code has: an opened card, the verdict, and the lists
+-- that were given. Assumes nothing.
 use Prim.Native.Nat.{ℕ, _≤_}
-use mathlib.Core.Path.{_≡_, refl, _∙_, ap}
+use mathlib.Core.Path.{_≡_, refl, _∙_, ap, ap₂}
 use mathlib.Core.List.{List, _++_}
-use lib.ListN.{length, take, drop}
+use lib.ListN.{length, drop}
 use borrow.Author.Tests.{ltb-false}
 use Rattle.answer.specs.Answer.{refused, given, Verdict, accepted}
 use Rattle.answer.specs.Judge.{verdict-of}
 use Rattle.answer.proofs.Steps.{then-same, first-accepts, next-accepts, refuse-accepts}
 use Rattle.answer.proofs.Lent.{after-refused, after-given}
-use Rattle.curve.specs.Kind.{quintic}
-use Rattle.curve.specs.Card.{Card, knots, knot, on, joint}
-use Rattle.curve.specs.Steps.{lengths, counted, codes, slope-beyond, curvature-beyond, in-range, room}
-use Rattle.curve.specs.Orders.{numbers-sound, sound, verdict, lists-order}
+use Rattle.curve.specs.Kind.{Kind}
+use Rattle.curve.specs.Card.{Card, knots}
+use Rattle.curve.specs.Steps.{lengths, room}
+use Rattle.curve.specs.Orders.{lists-order}
 use Rattle.curve.proofs.Accepted.{same-lengths}
-use Rattle.lists.specs.Lists.{Checked as Sound-lists}
-use Rattle.card_bytes.specs.Bytes.{quintic-head}
 use Rattle.card_bytes.specs.Held.{card-of}
-use Rattle.card_bytes.proofs.RoundTrip.{accepted-card}
+use Rattle.card_bytes.specs.Records.{kind-by}
 use Rattle.decode.specs.declared.Card.{Card as Decoded}
-use Rattle.decode.specs.Decoded.{decoded, Full, Holds}
+use Rattle.decode.specs.Decoded.{decoded, Holds}
 use Rattle.opened.specs.declared.Opened.{Opened}
-use Rattle.opened.specs.Steps.{Opens}
-use Rattle.opened.proofs.Shape.{quintic-few}
-use Rattle.opened.proofs.Fronts.{knots-held, fronts, long-fronts}
+use Rattle.opened.specs.Steps.{Opened-by-head}
+use Rattle.opened.proofs.Fronts.{knots-held, fronts}
 use Rattle.opened.proofs.Opening.{accepted-holds}
 use Rattle.card.specs.declared.Checked.{Checked}
 use Rattle.card.specs.Answers.{own, checked}
 use Rattle.card.specs.Promise.{Lists, into, Reads}
 
--- ---- an opened card
-
-pub held : {o : Opened} {s : List ℕ} → Opens quintic quintic-head o s → own s ≡ accepted → Holds (o .card) s
-held = accepted-holds quintic-few
-
--- the code's card of accepted bytes is a sound one
-pub sound-held : {d : Decoded} {s : List ℕ} → Holds d s → own s ≡ accepted → verdict quintic (decoded d) ≡ accepted
-sound-held h a = ap (verdict quintic) (h .is) ∙ accepted-card quintic quintic-head _ a
-
--- what a reading asks of the fronts of the arrays
-pub sound-fronts : {d : Decoded} → Full d → verdict quintic (decoded d) ≡ accepted
-    → (let n = d .knots in Sound-lists (take n (d .minutes)) (take n (d .ordinates)) (take n (d .slopes)) (take n (d .curvatures)))
-unfolding verdict sound numbers-sound decoded knots in-range slope-beyond curvature-beyond joint knot on
-sound-fronts f e =
-    let s = next-accepts (codes quintic _ _) _ (next-accepts (counted quintic _) _ (next-accepts (lengths _ _ _ _) _ e)) in
-    record { long = long-fronts f; stand = first-accepts _ _ s; range = first-accepts _ _ (next-accepts _ _ s) }
-
--- an answer to a verdict on one card is that to the same verdict on another, if they are the same where it accepts
-pub checked-same : {r : Checked} {v : Verdict} (w : Verdict) {c d : Card} → r ≡ checked v d → v ≡ w → (w ≡ accepted → d ≡ c) → r ≡ checked w c
+-- an answer to a verdict on one card is that to the same verdict on another of the same kind, if they are the
+-- same where it accepts
+pub checked-same : {r : Checked} {v : Verdict} (w : Verdict) {K L : Kind} {c d : Card} → r ≡ checked v L d → v ≡ w → L ≡ K → (w ≡ accepted → d ≡ c) → r ≡ checked w K c
 unfolding checked
-checked-same {r} {v} w {c} {d} p q f = p ∙ ap (λ u. checked u d) q ∙ go w f
+checked-same {r} {v} w {K} {L} {c} {d} p q e f = p ∙ ap₂ (λ u M. checked u M d) q e ∙ go w f
   where
-    go : (w : Verdict) → (w ≡ accepted → d ≡ c) → checked w d ≡ checked w c
+    go : (w : Verdict) → (w ≡ accepted → d ≡ c) → checked w K d ≡ checked w K c
     go (refused n p) f = refl
-    go (given u) f = ap (checked (given u)) (f refl)
+    go (given u) f = ap (checked (given u) K) (f refl)
 
 -- ---- the order of lent lists, by their lengths
 
 module _ (xs ys ms Ms : ℕ) (s : List ℕ) where
   -- "3, the card's, 26", of what was opened
-  pub opened-order : {o : Opened} → Opens quintic quintic-head o s → lists-order xs ys ms Ms (verdict-of (o .verdict)) (o .card .knots) ≡ lists-order xs ys ms Ms (own s) (knots (card-of s))
+  pub opened-order : {o : Opened} → Opened-by-head o s → lists-order xs ys ms Ms (verdict-of (o .verdict)) (o .card .knots) ≡ lists-order xs ys ms Ms (own s) (knots (card-of s))
   unfolding lists-order
-  opened-order o = then-same refl (λ e. then-same (o .judged) (λ a. ap (λ n. room n xs) (knots-held (held o a))))
+  opened-order o = then-same refl (λ e. then-same (o .judged) (λ a. ap (λ n. room n xs) (knots-held (accepted-holds o a))))
 
   -- what an acceptance leaves
   pub record Taken : Type 0 where
@@ -87,7 +68,7 @@ module _ (xs ys ms Ms : ℕ) (s : List ℕ) where
 -- ---- four lent lists
 
 module _ (l : Lists) (s : List ℕ) where
-  pub into-is : {o : Opened} → Opens quintic quintic-head o s
+  pub into-is : {o : Opened} → Opened-by-head o s
       → lists-order (length (l .minutes)) (length (l .ordinates)) (length (l .slopes)) (length (l .curvatures)) (verdict-of (o .verdict)) (o .card .knots) ≡ into l s
   unfolding into
   into-is o = opened-order _ _ _ _ s o
@@ -98,7 +79,7 @@ module _ (l : Lists) (s : List ℕ) where
 
   -- ---- what the lists hold afterwards
 
-  pub reads-refused : {r : Checked} {n p : ℕ} → r ≡ checked (into l s) (card-of s) → into l s ≡ refused n p → Reads s l l r
+  pub reads-refused : {r : Checked} {n p : ℕ} → r ≡ checked (into l s) (kind-by s) (card-of s) → into l s ≡ refused n p → Reads s l l r
   reads-refused a e = record { answer = a; minutes = after-refused _ _ e; ordinates = after-refused _ _ e; slopes = after-refused _ _ e; curvatures = after-refused _ _ e }
 
   -- a card's lists over the fronts of four
@@ -109,7 +90,7 @@ module _ (l : Lists) (s : List ℕ) where
       × ((exit .slopes ≡ decoded d .slopes ++ drop (d .knots) (l .slopes))
       × (exit .curvatures ≡ decoded d .curvatures ++ drop (d .knots) (l .curvatures))))
 
-  pub reads-given : {exit : Lists} {r : Checked} {d : Decoded} → r ≡ checked (into l s) (card-of s) → into l s ≡ accepted → Holds d s → Gives d exit → Reads s l exit r
+  pub reads-given : {exit : Lists} {r : Checked} {d : Decoded} → r ≡ checked (into l s) (kind-by s) (card-of s) → into l s ≡ accepted → Holds d s → Gives d exit → Reads s l exit r
   reads-given a e h g =
       let f = fronts h in
       let gives = rw (h .is) at g in

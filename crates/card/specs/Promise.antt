@@ -1,5 +1,5 @@
--- What the reader leaves its caller: its answer, and the four lent lists at exit. Document 01, "Numbers of refusal": "Card into lent lists: 3, the card's, 26."
--- Assumes nothing.
+-- What the reader leaves its caller: its answer, and the four lent lists at exit. Document 01, "Numbers of
+-- refusal": "Card into lent lists: 3, the card's, 26." Assumes nothing.
 use mathlib.Core.Path.{_≡_}
 use Prim.Native.Nat.{ℕ}
 use mathlib.Core.List.{List}
@@ -11,6 +11,7 @@ use Rattle.answer.specs.Lent.{lent-after}
 use Rattle.curve.specs.Card.{knots}
 use Rattle.curve.specs.Orders.{lists-order}
 use Rattle.card_bytes.specs.Held.{card-of}
+use Rattle.card_bytes.specs.Records.{kind-by}
 use Rattle.card.specs.declared.Checked.{Checked}
 use Rattle.card.specs.Answers.{own, checked}
 
@@ -31,7 +32,7 @@ into l s = lists-order (length (l .minutes)) (length (l .ordinates)) (length (l 
 
 -- the bytes; the lists at entry and at exit
 pub record Reads (s : List ℕ) (entry exit : Lists) (r : Checked) : Type 0 where
-  pub answer : r ≡ checked (into entry s) (card-of s)
+  pub answer : r ≡ checked (into entry s) (kind-by s) (card-of s)
   pub minutes : exit .minutes ≡ lent-after (into entry s) (card-of s .minutes) (entry .minutes)
   pub ordinates : exit .ordinates ≡ lent-after (into entry s) (card-of s .ordinates) (entry .ordinates)
   pub slopes : exit .slopes ≡ lent-after (into entry s) (card-of s .slopes) (entry .slopes)

@@ -1,22 +1,25 @@
-// What is done with a card's bytes: tested, read into lent lists, and read off at a minute. Document 01, the orders of "Numbers of refusal".
-// None of the public functions asks anything of its caller.
+// What is done with a card's bytes of either kind: tested, read into lent lists, and read off at a minute.
+// Document 01, the orders of "Numbers of refusal". None of the public functions asks anything of its caller.
 use answer::Judged;
 use decode::Card;
+use knots::Kind;
 use opened::Opened;
 ghost use mathlib.Core.Path.{_≡_};
 ghost use Rattle.answer.specs.Answer.{accepted};
 ghost use Rattle.answer.specs.Judge.{verdict-of};
-ghost use Rattle.curve.specs.Kind.{quintic};
-ghost use Rattle.curve.specs.Orders.{verdict, lists-order};
+ghost use Rattle.curve.specs.Orders.{lists-order};
+ghost use Rattle.knots.specs.Kinds.{kind-of};
 ghost use Rattle.lists.specs.Lists.{answer-at};
 ghost use Rattle.card_bytes.specs.Held.{card-of};
+ghost use Rattle.card_bytes.specs.Records.{kind-by};
 ghost use Rattle.decode.specs.Decoded.{decoded, Full};
+ghost use Rattle.opened.specs.Readable.{Readable};
 ghost use Rattle.card.specs.Answers.{own, checked, read-off};
 ghost use Rattle.card.specs.Promise.{lists, Reads};
 
 // ---- the card test
 
-// Zeros behind a refusal.
+// The kind of card is its head's: 1 or 6. Zeros behind a refusal.
 #[repr(C)]
 pub struct Checked {
     pub number: u32,
@@ -24,12 +27,13 @@ pub struct Checked {
     pub knots: u32,
     pub left: u32,
     pub right: u32,
+    pub kind: u32,
 }
 
 impl Checked {
-    fn of(verdict: Judged, card: Card) -> Checked
+    fn of(verdict: Judged, kind: Kind, card: Card) -> Checked
         requires { ⌜ (verdict-of verdict ≡ accepted → Full card) ⌝ }
-        ensures { λ r. ⌜ r ≡ checked (verdict-of verdict) (decoded card) ⌝ }
+        ensures { λ r. ⌜ r ≡ checked (verdict-of verdict) (kind-of kind) (decoded card) ⌝ }
     {
         match verdict {
             Judged::Refused(number, place) => Checked {
@@ -38,6 +42,7 @@ impl Checked {
                 knots: 0,
                 left: 0,
                 right: 0,
+                kind: 0,
             },
             Judged::Accepted => Checked {
                 number: 0,
@@ -45,18 +50,20 @@ impl Checked {
                 knots: card.knots as u32,
                 left: card.left as u32,
                 right: card.right as u32,
+                kind: kind.head as u32,
             },
         }
     }
 }
 
 pub fn check(card: &[u8]) -> Checked
-    ensures { λ r. ⌜ r ≡ checked (own (now (card .entry))) (card-of (now (card .entry))) ⌝ }
+    ensures { λ r. ⌜ r ≡ checked (own (now (card .entry))) (kind-by (now (card .entry))) (card-of (now (card .entry))) ⌝ }
 {
     let opened = Opened::by_head(card);
     let verdict = opened.verdict;
+    let kind = opened.kind;
     let held = opened.card;
-    Checked::of(verdict, held)
+    Checked::of(verdict, kind, held)
 }
 
 // ---- the card into lent lists
@@ -95,6 +102,7 @@ pub fn read(
         (lists (minutes .exit) (ordinates .exit) (slopes .exit) (curvatures .exit)) r ⌝ }
 {
     let opened = Opened::by_head(card);
+    let kind = opened.kind;
     let held = opened.card;
     let verdict = into(
         opened,
@@ -104,18 +112,17 @@ pub fn read(
         curvatures.len(),
     );
     if let Judged::Refused(_, _) = verdict {
-        return Checked::of(verdict, held);
+        return Checked::of(verdict, kind, held);
     }
     held.give(minutes, ordinates, slopes, curvatures);
-    Checked::of(verdict, held)
+    Checked::of(verdict, kind, held)
 }
 
 // ---- the reading
 
 // 11, or what a sound card reads at a minute.
 fn read_off(card: Card, minute: u16) -> lists::CardReading
-    requires { ⌜ Full card ⌝ }
-    requires { ⌜ verdict quintic (decoded card) ≡ accepted ⌝ }
+    requires { ⌜ Readable card ⌝ }
     ensures { λ r. ⌜ r ≡ answer-at accepted (decoded card) minute ⌝ }
 {
     let n = card.knots;

@@ -41,6 +41,9 @@ carried-kind s = go (isAt s 0 (sloped .head) 6)
 pub opens-by-head : {k : Carried} {o : Opened} (s : List ℕ) → k ≡ carried-by s → Opens k (kind-of k) o s → Opened-by-head o s
 opens-by-head {o} s e opens = rw (← carried-kind s, ← e) opens
 
+pub opened-kind : {o : Opened} {s : List ℕ} → Opened-by-head o s → kind-of (o .kind) ≡ kind-by s
+opened-kind {s} opens = ap kind-of (opens .kind) ∙ carried-kind s
+
 -- the arrays have a place for each of its knots
 few-by : (s : List ℕ) → kind-by s .most-knots ≤ most
 few-by s = subst (λ n. n ≤ most) (sym (limits (known-by s) .most)) quintic-few

@@ -11,32 +11,37 @@ use Rattle.answer.specs.Judge.{verdict-of}
 use Rattle.answer.proofs.Chain.{step-refused}
 use Rattle.decode.specs.Decoded.{decoded, Holds}
 use Rattle.card_bytes.specs.Held.{card-of}
+use Rattle.card_bytes.specs.Records.{kind-by}
+use Rattle.knots.specs.Kinds.{kind-of}
 use Rattle.opened.proofs.Fronts.{knots-held}
+use Rattle.opened.proofs.Opening.{opened-kind, accepted-holds}
 use Rattle.card.specs.declared.Checked.{Checked}
 use Rattle.card.specs.Answers.{checked}
 use Rattle.card.specs.Promise.{Lists, lists, into}
-use Rattle.card.proofs.Lists.{held, checked-same, into-is, Taken, taken, reads-refused, reads-given}
+use Rattle.card.proofs.Lists.{checked-same, into-is, Taken, taken, reads-refused, reads-given}
 use borrow.Author.Needs.{needs}
 use Rattle.card.proofs.read.Statement.{statement}
 use Rattle.card.proofs.read.Tie as tie
 
 abbrev bytes : tie.After-into → List ℕ
-bytes c = now (c .before .before .before .before .before .args .card)
+bytes c = now (c .before .before .before .before .before .before .args .card)
 
 abbrev lent : tie.After-into → Lists
-lent c = let a = c .before .before .before .before .before .args in lists (a .minutes) (a .ordinates) (a .slopes) (a .curvatures)
+lent c = let a = c .before .before .before .before .before .before .args in lists (a .minutes) (a .ordinates) (a .slopes) (a .curvatures)
 
 verdict-is : (c : tie.After-into) → verdict-of (c .into .result) ≡ into (lent c) (bytes c)
-verdict-is c = c .into .ensures ∙ into-is (lent c) (bytes c) (c .before .before .by-head .ensures)
+verdict-is c = c .into .ensures ∙ into-is (lent c) (bytes c) (c .before .before .before .by-head .ensures)
 
 took : (c : tie.After-into) → verdict-of (c .into .result) ≡ accepted → (let l = lent c in Taken (length (l .minutes)) (length (l .ordinates)) (length (l .slopes)) (length (l .curvatures)) (bytes c))
 took c e = taken (lent c) (bytes c) (sym (verdict-is c) ∙ e)
 
-holds : (c : tie.After-into) → verdict-of (c .into .result) ≡ accepted → Holds (c .before .before .by-head .result .card) (bytes c)
-holds c e = held (c .before .before .by-head .ensures) (took c e .own)
+holds : (c : tie.After-into) → verdict-of (c .into .result) ≡ accepted → Holds (c .before .before .before .by-head .result .card) (bytes c)
+holds c e = accepted-holds (c .before .before .before .by-head .ensures) (took c e .own)
 
-answered : (c : tie.After-into) {r : Checked} → r ≡ checked (verdict-of (c .into .result)) (decoded (c .before .before .by-head .result .card)) → r ≡ checked (into (lent c) (bytes c)) (card-of (bytes c))
-answered c e = checked-same _ e (verdict-is c) (λ v. holds c (verdict-is c ∙ v) .is)
+answered : (c : tie.After-into) {r : Checked}
+    → (let o = c .before .before .before .by-head .result in r ≡ checked (verdict-of (c .into .result)) (kind-of (o .kind)) (decoded (o .card)))
+    → r ≡ checked (into (lent c) (bytes c)) (kind-by (bytes c)) (card-of (bytes c))
+answered c e = checked-same _ e (verdict-is c) (opened-kind (c .before .before .before .by-head .ensures)) (λ v. holds c (verdict-is c ∙ v) .is)
 
 of-requires : tie.Need-of-requires
 of-requires c κs e = holds (c .before .before) e .full

@@ -5,30 +5,28 @@ use native.Mathlib.Omega.{arith}
 use lib.Seq.{length-take-le}
 use Rattle.curve.specs.Kind.{quintic}
 use Rattle.curve.specs.Card.{knots}
-use Rattle.curve.proofs.Accepted.{good}
 use Rattle.decode.specs.Decoded.{decoded}
-use Rattle.card.proofs.Lists.{sound-fronts}
 use borrow.Author.Needs.{needs}
 use Rattle.card.proofs.read_off.Statement.{statement}
 use Rattle.card.proofs.read_off.Tie as tie
 
 slice-aggregate-read-at : tie.Need-slice-aggregate-read-at
-slice-aggregate-read-at c = sym (length-take-le _ _ (c .before .before .before .before .before .pre .0 .minutes))
+slice-aggregate-read-at c = sym (length-take-le _ _ (c .before .before .before .before .before .pre .full .minutes))
 
 slice-aggregate-read-at-2 : tie.Need-slice-aggregate-read-at-2
-slice-aggregate-read-at-2 c = sym (length-take-le _ _ (c .before .before .before .before .before .before .pre .0 .ordinates))
+slice-aggregate-read-at-2 c = sym (length-take-le _ _ (c .before .before .before .before .before .before .pre .full .ordinates))
 
 slice-aggregate-read-at-3 : tie.Need-slice-aggregate-read-at-3
-slice-aggregate-read-at-3 c = sym (length-take-le _ _ (c .before .before .before .before .before .before .before .pre .0 .slopes))
+slice-aggregate-read-at-3 c = sym (length-take-le _ _ (c .before .before .before .before .before .before .before .pre .full .slopes))
 
 slice-aggregate-read-at-4 : tie.Need-slice-aggregate-read-at-4
-slice-aggregate-read-at-4 c = sym (length-take-le _ _ (c .before .before .before .before .before .before .before .before .pre .0 .curvatures))
+slice-aggregate-read-at-4 c = sym (length-take-le _ _ (c .before .before .before .before .before .before .before .before .pre .full .curvatures))
 
 read-at-requires : tie.Need-read-at-requires
 unfolding decoded knots quintic
 read-at-requires c κs =
     let s = c .before .before .before .before .before .before .before .before in
-    (sound-fronts (s .pre .0) (s .pre .1), omega (arith, good quintic (decoded (s .args .card)) (s .pre .1) .few))
+    (s .pre .checked, omega (arith, s .pre .some))
 
 returns : tie.Need-returns
 unfolding decoded

@@ -9,7 +9,7 @@ use Rattle.curve.specs.Orders.{reading-order}
 use Rattle.lists.specs.Lists.{answered, answer-at}
 use Rattle.card_bytes.specs.Held.{card-of}
 use Rattle.card.specs.Answers.{own, read-off}
-use Rattle.card.proofs.Lists.{held, sound-held}
+use Rattle.opened.proofs.Opening.{accepted-holds, accepted-readable}
 use borrow.Author.Needs.{needs}
 use Rattle.card.proofs.reading.Statement.{statement}
 use Rattle.card.proofs.reading.Tie as tie
@@ -18,10 +18,7 @@ accepts : (c : tie.After-enum-told) → own (now (c .before .before .before .bef
 accepts c = sym (c .before .before .before .by-head .ensures .judged) ∙ ap verdict-of (c .enum-told .given .1)
 
 read-off-requires : tie.Need-read-off-requires
-read-off-requires c κs =
-    let e = accepts c in
-    let h = held (c .before .before .before .by-head .ensures) e in
-    (h .full, sound-held h e)
+read-off-requires c κs = accepted-readable (c .before .before .before .by-head .ensures) (accepts c)
 
 returns : tie.Need-returns
 unfolding read-off answer-at reading-order
@@ -33,7 +30,7 @@ returns-2 c =
     let e = accepts (c .before) in
     let s = now (c .before .before .before .before .before .before .args .card) in
     let minute = c .before .before .before .before .before .before .args .minute in
-    let h = held (c .before .before .before .before .by-head .ensures) e in
+    let h = accepted-holds (c .before .before .before .before .by-head .ensures) e in
     c .read-off .ensures ∙ ap (λ k. answer-at accepted k minute) (h .is) ∙ ap (λ v. answer-at v (card-of s) minute) (sym e)
 
 pub reading-spec : {M : Type 1} → statement M
