@@ -1,10 +1,10 @@
-// The writer of a card's bytes: document 01, "Card bytes", and the writer's order of "Numbers of refusal". It asks nothing of its caller.
+// The writer of a card's bytes, one for both kinds of card: document 01, "Card bytes", and the writer's order
+// of "Numbers of refusal"; document 02, order 8. It asks nothing of its caller.
 use answer::Judged;
-use decode::Card;
 use knots::Kind;
 ghost use mathlib.Core.Path.{_≡_};
 ghost use Rattle.answer.specs.Judge.{verdict-of};
-ghost use Rattle.curve.specs.Kind.{quintic};
+ghost use Rattle.curve.specs.Kind.{quintic, sloped};
 ghost use Rattle.curve.specs.Orders.{verdict, write-order};
 ghost use Rattle.knots.specs.Kinds.{kind-of};
 ghost use Rattle.knots.specs.Lent.{lent};
@@ -37,6 +37,7 @@ fn judged(
 
 // And 26.
 fn writable(
+    kind: Kind,
     minutes: &[u16],
     ordinates: &[i16],
     slopes: &[i32],
@@ -45,9 +46,8 @@ fn writable(
     right: u16,
     bytes: usize,
 ) -> Judged
-    ensures { λ r. ⌜ verdict-of r ≡ write-order quintic (lent (now (minutes .entry)) (now (ordinates .entry)) (now (slopes .entry)) (now (curvatures .entry)) left right) bytes ⌝ }
+    ensures { λ r. ⌜ verdict-of r ≡ write-order (kind-of kind) (lent (now (minutes .entry)) (now (ordinates .entry)) (now (slopes .entry)) (now (curvatures .entry)) left right) bytes ⌝ }
 {
-    let kind = Kind::quintic();
     match judged(kind, minutes, ordinates, slopes, curvatures, left, right) {
         Judged::Refused(number, place) => Judged::Refused(number, place),
         Judged::Accepted => knots::room(14 + 16 * minutes.len(), bytes),
@@ -62,8 +62,9 @@ pub struct Written {
     pub bytes: u32,
 }
 
-// On acceptance the card's bytes are written, and the rest of the buffer stays.
-pub fn write(
+// On acceptance the bytes of the card of a kind are written, and the rest of the buffer stays.
+fn write_as(
+    kind: Kind,
     minutes: &[u16],
     ordinates: &[i16],
     slopes: &[i32],
@@ -73,11 +74,12 @@ pub fn write(
     buffer: &mut [u8],
 ) -> Written
     ensures { λ r. ⌜
-        Writes
+        Writes (kind-of kind)
         (lent (now (minutes .entry)) (now (ordinates .entry)) (now (slopes .entry)) (now (curvatures .entry)) left right)
         (now (buffer .entry)) (now (buffer .exit)) r ⌝ }
 {
     let verdict = writable(
+        kind,
         minutes,
         ordinates,
         slopes,
@@ -94,7 +96,7 @@ pub fn write(
         };
     }
     encode::put_card(
-        Card::QUINTIC,
+        kind,
         minutes,
         ordinates,
         slopes,
@@ -108,4 +110,55 @@ pub fn write(
         place: 0,
         bytes: (14 + 16 * minutes.len()) as u32,
     }
+}
+
+pub fn write(
+    minutes: &[u16],
+    ordinates: &[i16],
+    slopes: &[i32],
+    curvatures: &[i32],
+    left: u16,
+    right: u16,
+    buffer: &mut [u8],
+) -> Written
+    ensures { λ r. ⌜
+        Writes quintic
+        (lent (now (minutes .entry)) (now (ordinates .entry)) (now (slopes .entry)) (now (curvatures .entry)) left right)
+        (now (buffer .entry)) (now (buffer .exit)) r ⌝ }
+{
+    write_as(
+        Kind::quintic(),
+        minutes,
+        ordinates,
+        slopes,
+        curvatures,
+        left,
+        right,
+        buffer,
+    )
+}
+
+// Order 8's, whose codes are both 0.
+pub fn write_slopes(
+    minutes: &[u16],
+    ordinates: &[i16],
+    slopes: &[i32],
+    curvatures: &[i32],
+    buffer: &mut [u8],
+) -> Written
+    ensures { λ r. ⌜
+        Writes sloped
+        (lent (now (minutes .entry)) (now (ordinates .entry)) (now (slopes .entry)) (now (curvatures .entry)) 0 0)
+        (now (buffer .entry)) (now (buffer .exit)) r ⌝ }
+{
+    write_as(
+        Kind::sloped(),
+        minutes,
+        ordinates,
+        slopes,
+        curvatures,
+        0,
+        0,
+        buffer,
+    )
 }

@@ -2,10 +2,8 @@
 -- Assumes nothing.
 use mathlib.Core.Path.{_≡_, ap, _∙_}
 use denote.Ref.{now}
-use lib.Dec.{lit≤}
 use Rattle.answer.specs.Judge.{verdict-of}
 use Rattle.answer.proofs.Chain.{step-refuses, step-passes, step-accepts}
-use Rattle.curve.specs.Kind.{quintic}
 use Rattle.curve.specs.Card.{Card, knots}
 use Rattle.curve.specs.Steps.{counted}
 use Rattle.knots.specs.Kinds.{kind-of}
@@ -24,8 +22,7 @@ unfolding knots counted
 sized-is c = c .sized .ensures ∙ ap (sizes-named (kind-of (c .before .before .before .args .kind)) (card c)) (c .before .codes .ensures)
 
 sound-requires : tie.Need-sound-requires
-unfolding quintic
-sound-requires c κs = long-lists _ (card (c .before .before)) (lit≤ tt) (step-accepts (sized-is (c .before .before)) (c .enum-told .given .1))
+sound-requires c κs = long-lists (c .before .before .before .before .before .args .kind) (card (c .before .before)) (step-accepts (sized-is (c .before .before)) (c .enum-told .given .1))
 
 returns : tie.Need-returns
 returns c = step-refuses _ (sized-is (c .before .before .before)) (c .before .number .given .1) ∙ sizes-then _ _

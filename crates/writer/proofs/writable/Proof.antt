@@ -7,24 +7,18 @@ use denote.Ref.{now}
 use lib.ListN.{length}
 use Rattle.answer.specs.Judge.{verdict-of}
 use Rattle.answer.proofs.Chain.{step-refuses, step-passes}
-use Rattle.curve.specs.Kind.{quintic}
 use Rattle.curve.specs.Card.{knots}
 use Rattle.curve.specs.Orders.{verdict, write-order}
 use Rattle.knots.specs.Lent.{lent}
 use Rattle.decode.specs.Decoded.{most}
-use Rattle.knots.proofs.Carried.{carried}
 use Rattle.writer.proofs.Ready.{accepted-few}
 use borrow.Author.Needs.{needs}
 use Rattle.writer.proofs.writable.Statement.{statement}
 use Rattle.writer.proofs.writable.Tie as tie
 
-judged-is : (c : tie.After-judged)
-    → (let a = c .before .before .before .args in verdict-of (c .judged .result) ≡ verdict quintic (lent (now (a .minutes)) (now (a .ordinates)) (now (a .slopes)) (now (a .curvatures)) (a .left) (a .right)))
-judged-is c = rw (carried (c .before .quintic .ensures)) at (c .judged .ensures)
-
-few : (c : tie.After-enum-told) → length (now (c .before .before .before .before .before .args .minutes)) ≤ most
+few : (c : tie.After-enum-told) → length (now (c .before .before .before .before .args .minutes)) ≤ most
 unfolding knots
-few c = accepted-few _ (sym (judged-is (c .before .before)) ∙ ap verdict-of (c .enum-told .given .1))
+few c = accepted-few (c .before .before .before .before .args .kind) _ (sym (c .before .before .judged .ensures) ∙ ap verdict-of (c .enum-told .given .1))
 
 mul-room : tie.Need-mul-room
 mul-room c = omega (arith, few c)
@@ -34,17 +28,16 @@ add-room c = omega (arith, few c)
 
 returns : tie.Need-returns
 unfolding write-order
-returns c = step-refuses _ (judged-is (c .before .before .before)) (c .before .number .given .1)
+returns c = step-refuses _ (c .before .before .before .judged .ensures) (c .before .number .given .1)
 
 returns-2 : tie.Need-returns-2
 unfolding write-order knots
-returns-2 c = step-passes _ (judged-is (c .before .before .before)) (c .before .enum-told .given .1) (c .room .ensures)
+returns-2 c = step-passes _ (c .before .before .before .judged .ensures) (c .before .enum-told .given .1) (c .room .ensures)
 
 pub writable-spec : {M : Type 1} → statement M
 writable-spec =
     tie.close
     (tie.spec
-    (λ c κs. search needs)
     (λ c κs. search needs)
     (λ c. search needs)
     (λ c. search needs)
