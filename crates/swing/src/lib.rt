@@ -9,12 +9,10 @@ ghost use mathlib.Core.Path.{_≡_};
 ghost use Prim.Native.Nat.{_+_, _≤_, _<_, min};
 ghost use lib.ListN.{length};
 ghost use lib.IntN.{_-ℤ_};
-ghost use Rattle.answer.specs.Answer.{accepted};
-ghost use Rattle.curve.specs.Kind.{quintic};
-ghost use Rattle.curve.specs.Orders.{verdict};
 ghost use Rattle.knots.specs.Lent.{lent};
 ghost use Rattle.lists.specs.Lists.{Checked};
-ghost use Rattle.decode.specs.Decoded.{decoded, Full};
+ghost use Rattle.decode.specs.Decoded.{decoded};
+ghost use Rattle.opened.specs.Readable.{Readable};
 ghost use Rattle.card_bytes.specs.Held.{card-of};
 ghost use Rattle.card.specs.Answers.{own};
 ghost use Rattle.swing.specs.Swing.{surplus, below, above, gap-swing, furthest, first-minute, swung, further, wider, widest-of};
@@ -187,8 +185,7 @@ fn widest_on(xs: &[u16], ys: &[i16], ms: &[i32], cs: &[i32]) -> AtKnot
 
 // Of the gap from place j of a sound card.
 pub fn gap(card: Card, j: usize) -> GapSwing
-    requires { ⌜ Full card ⌝ }
-    requires { ⌜ verdict quintic (decoded card) ≡ accepted ⌝ }
+    requires { ⌜ Readable card ⌝ }
     requires { ⌜ j + 1 < card .knots ⌝ }
     ensures { λ r. ⌜ r ≡ gap-swing (decoded card) j ⌝ }
 {
@@ -202,8 +199,7 @@ pub fn gap(card: Card, j: usize) -> GapSwing
 
 // Of the gap of a sound card that goes furthest.
 fn widest(card: Card) -> AtKnot
-    requires { ⌜ Full card ⌝ }
-    requires { ⌜ verdict quintic (decoded card) ≡ accepted ⌝ }
+    requires { ⌜ Readable card ⌝ }
     ensures { λ r. ⌜ r ≡ widest-of (decoded card) ⌝ }
 {
     let n = card.knots;

@@ -8,12 +8,11 @@ ghost use Prim.Native.Nat.{_+_, _-_, _≤_, _<_, _^_};
 ghost use lib.ListN.{length, getD};
 ghost use Rattle.answer.specs.Answer.{accepted};
 ghost use Rattle.answer.specs.Judge.{verdict-of};
-ghost use Rattle.curve.specs.Kind.{quintic};
 ghost use Rattle.curve.specs.Steps.{outside};
-ghost use Rattle.curve.specs.Orders.{verdict};
 ghost use Rattle.knots.specs.Lent.{lent};
 ghost use Rattle.lists.specs.Lists.{Checked, answer-at};
-ghost use Rattle.decode.specs.Decoded.{decoded, Full};
+ghost use Rattle.decode.specs.Decoded.{decoded};
+ghost use Rattle.opened.specs.Readable.{Readable};
 ghost use Rattle.table.specs.Table.{table-order, count, Stops};
 ghost use Rattle.table.specs.Promise.{columns, Given, Tables};
 
@@ -29,8 +28,7 @@ pub struct Tabled {
 
 // 11, of a sound card.
 fn outside(card: Card, from: u16) -> Judged
-    requires { ⌜ Full card ⌝ }
-    requires { ⌜ verdict quintic (decoded card) ≡ accepted ⌝ }
+    requires { ⌜ Readable card ⌝ }
     ensures { λ r. ⌜ verdict-of r ≡ outside (decoded card .minutes) from ⌝ }
 {
     let n = card.knots;
@@ -40,7 +38,7 @@ fn outside(card: Card, from: u16) -> Judged
 
 // 3, the card's, 11.
 fn judged(opened: Opened, from: u16, values: usize, slopes: usize, curvatures: usize) -> Judged
-    requires { ⌜ (verdict-of (opened .verdict) ≡ accepted → Full (opened .card) × (verdict quintic (decoded (opened .card)) ≡ accepted)) ⌝ }
+    requires { ⌜ (verdict-of (opened .verdict) ≡ accepted → Readable (opened .card)) ⌝ }
     ensures { λ r. ⌜ verdict-of r ≡ table-order values slopes curvatures (verdict-of (opened .verdict)) (decoded (opened .card) .minutes) from ⌝ }
 {
     let verdict = opened.verdict;
@@ -138,8 +136,8 @@ fn give(
     slopes: &mut [i32],
     curvatures: &mut [i32],
 ) -> usize
-    requires { ⌜ Full card ⌝ }
-    requires { ⌜ (verdict quintic (decoded card) ≡ accepted) × (outside (decoded card .minutes) from ≡ accepted) ⌝ }
+    requires { ⌜ Readable card ⌝ }
+    requires { ⌜ outside (decoded card .minutes) from ≡ accepted ⌝ }
     requires { ⌜ (length (now slopes) ≡ length (now values)) × (length (now curvatures) ≡ length (now values)) ⌝ }
     ensures { λ r. ⌜ (r ≡ count (decoded card .minutes) from (length (now (values .entry)))) × (from + r ≤ 2 ^ 16) ⌝ }
     ensures { λ r. ⌜

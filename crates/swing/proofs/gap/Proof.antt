@@ -6,28 +6,27 @@ use lib.Seq.{length-take-le}
 use Rattle.curve.specs.Card.{knot}
 use Rattle.curve.specs.Reading.{reads-at, spell}
 use Rattle.decode.specs.Decoded.{decoded}
-use Rattle.card.proofs.Lists.{sound-fronts}
 use borrow.Author.Needs.{needs}
 use Rattle.swing.specs.Swing.{below-at, above-at, gap-swing}
 use Rattle.swing.proofs.gap.Statement.{statement}
 use Rattle.swing.proofs.gap.Tie as tie
 
 slice-aggregate-gap-on : tie.Need-slice-aggregate-gap-on
-slice-aggregate-gap-on c = sym (length-take-le _ _ (c .before .before .before .before .before .pre .0 .minutes))
+slice-aggregate-gap-on c = sym (length-take-le _ _ (c .before .before .before .before .before .pre .0 .full .minutes))
 
 slice-aggregate-gap-on-2 : tie.Need-slice-aggregate-gap-on-2
-slice-aggregate-gap-on-2 c = sym (length-take-le _ _ (c .before .before .before .before .before .before .pre .0 .ordinates))
+slice-aggregate-gap-on-2 c = sym (length-take-le _ _ (c .before .before .before .before .before .before .pre .0 .full .ordinates))
 
 slice-aggregate-gap-on-3 : tie.Need-slice-aggregate-gap-on-3
-slice-aggregate-gap-on-3 c = sym (length-take-le _ _ (c .before .before .before .before .before .before .before .pre .0 .slopes))
+slice-aggregate-gap-on-3 c = sym (length-take-le _ _ (c .before .before .before .before .before .before .before .pre .0 .full .slopes))
 
 slice-aggregate-gap-on-4 : tie.Need-slice-aggregate-gap-on-4
-slice-aggregate-gap-on-4 c = sym (length-take-le _ _ (c .before .before .before .before .before .before .before .before .pre .0 .curvatures))
+slice-aggregate-gap-on-4 c = sym (length-take-le _ _ (c .before .before .before .before .before .before .before .before .pre .0 .full .curvatures))
 
 gap-on-requires : tie.Need-gap-on-requires
 gap-on-requires c κs =
     let s = c .before .before .before .before .before .before .before .before in
-    (sound-fronts (s .pre .0) (s .pre .1 .0), omega (arith, s .pre .1 .1, length-take-le (s .args .card .knots) (s .args .card .minutes) (s .pre .0 .minutes)))
+    (s .pre .0 .checked, omega (arith, s .pre .1, length-take-le (s .args .card .knots) (s .args .card .minutes) (s .pre .0 .full .minutes)))
 
 returns : tie.Need-returns
 unfolding decoded gap-swing below-at above-at reads-at spell knot

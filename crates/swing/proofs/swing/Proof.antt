@@ -6,11 +6,10 @@ use native.Mathlib.Omega.{arith}
 use borrow.Author.Needs.{needs}
 use Rattle.answer.specs.Answer.{accepted}
 use Rattle.answer.proofs.Chain.{step-refused, step-accepts}
-use Rattle.curve.specs.Kind.{quintic}
-use Rattle.curve.proofs.Accepted.{good}
 use Rattle.decode.specs.Decoded.{decoded, Holds}
 use Rattle.card.specs.Answers.{own}
-use Rattle.card.proofs.Lists.{held, sound-held}
+use Rattle.opened.proofs.Fronts.{knots-decoded}
+use Rattle.opened.proofs.Opening.{accepted-holds, accepted-readable}
 use Rattle.swing.proofs.Swings.{knot-inside, swung-refused, swung-given}
 use Rattle.swing.proofs.swing.Statement.{statement}
 use Rattle.swing.proofs.swing.Tie as tie
@@ -20,17 +19,17 @@ module _ (c : tie.After-enum-told) where
   accepts = step-accepts (c .before .before .before .by-head .ensures .judged) (c .enum-told .given .1)
 
   holds : Holds (c .before .before .before .by-head .result .card) (now (c .before .before .before .before .before .args .card))
-  holds = held (c .before .before .before .by-head .ensures) accepts
+  holds = accepted-holds (c .before .before .before .by-head .ensures) accepts
 
 widest-requires : tie.Need-widest-requires
-widest-requires c κs = (holds c .full, sound-held (holds c) (accepts c))
+widest-requires c κs = accepted-readable (c .before .before .before .by-head .ensures) (accepts c)
 
 cast-knot : tie.Need-cast-t10
-unfolding quintic
 cast-knot c =
     let e = c .before .before .before in
-    let d = decoded (e .before .before .before .by-head .result .card) in
-    omega (arith, knot-inside d (c .before .before .widest .ensures), good quintic d (sound-held (holds e) (accepts e)) .many)
+    let d = e .before .before .before .by-head .result .card in
+    let f = holds e .full in
+    omega (arith, knot-inside (decoded d) (c .before .before .widest .ensures), knots-decoded d f, f .few)
 
 returns : tie.Need-returns
 returns c = swung-refused _ (step-refused (c .before .before .before .before .by-head .ensures .judged) (c .before .verdict .given .1))
