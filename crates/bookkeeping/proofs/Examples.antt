@@ -7,7 +7,8 @@ use Rattle.answer.specs.Answer.{refused, given, _then_, refuse}
 use Rattle.bytes.specs.Numbers.{le, un, numAt}
 use Rattle.record.specs.Record.{header, isAt}
 use Rattle.curve.specs.Orders.{card-order}
-use Rattle.card_bytes.specs.Records.{due, head-due, card-verdict}
+use Rattle.curve.specs.Kind.{quintic, sloped}
+use Rattle.card_bytes.specs.Records.{due, head-due, kind-by, card-verdict}
 use Rattle.book.specs.Book.{Entry, entry-bytes, book-bytes, size, closes, holds, entry-at, _giving_, scan, rising, book}
 use Rattle.book.specs.Lookup.{held, look-up, before, rooms, spot-at, spot}
 use Rattle.book.specs.declared.Spot.{Spot}
@@ -49,7 +50,7 @@ pub examples :
     × (made (entry 8 []) 24 (seven ∷ nine ∷ []) ≡ refused 21 0)
     × (made (entry 7 []) 18 (seven ∷ nine ∷ []) ≡ given (entry 7 [] ∷ nine ∷ []))
     × (after (given (entry 7 [] ∷ nine ∷ [])) two ≡ book-bytes (entry 7 [] ∷ nine ∷ []) ++ (0 ∷ []))
-unfolding le un numAt header isAt card-order due head-due card-verdict entry-bytes book-bytes size closes holds entry-at _giving_ scan rising book held look-up before rooms spot-at spot put-in made put after refuse _then_
+unfolding le un numAt header isAt quintic sloped card-order due head-due kind-by card-verdict entry-bytes book-bytes size closes holds entry-at _giving_ scan rising book held look-up before rooms spot-at spot put-in made put after refuse _then_
 examples = (refl, refl, refl, refl, refl, refl, refl, refl, refl, refl, refl, refl, refl, refl, refl, refl, refl, refl, refl, refl, refl, refl)
 
 -- ---- the limit

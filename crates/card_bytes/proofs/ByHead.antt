@@ -1,23 +1,28 @@
 -- Which kind of card a head opens: document 01's or order 8's, whose limits are the same; what is written as
--- a card of one of them, and what is accepted as one, opens with its head; and no byte behind the head has a
--- say. Assumes nothing.
+-- a card of one of them, and what is accepted as one, opens with its head; no byte behind the head has a say;
+-- and the round trip and demand 3 by the kind that the head names. Assumes nothing.
 use Prim.Native.Nat.{ℕ, _^_, _≤_, _<_}
 use mathlib.Core.Path.{_≡_, refl, sym, ap, _∙_}
 use mathlib.Core.Logic.{_⊎_, inl, inr}
 use mathlib.Core.Bool.{Bool, true, false, cond}
 use mathlib.Core.List.{List}
 use lib.ListN.{length, take}
+use native.Mathlib.Omega.{arith}
 use lib.Dec.{eqb, lit<}
 use Rattle.answer.specs.Answer.{accepted}
 use Rattle.record.specs.Record.{isAt}
 use Rattle.record.proofs.Records.{standing, of-kind}
 use Rattle.record.proofs.Fronts.{record-in-front}
 use Rattle.curve.specs.Kind.{Kind, quintic, sloped}
-use Rattle.curve.specs.Card.{Card}
+use Rattle.curve.specs.Card.{Card, knots}
+use Rattle.curve.specs.Orders.{verdict}
+use Rattle.curve.specs.Demand.{Demand3}
+use Rattle.curve.proofs.Accepted.{Good, good}
 use Rattle.card_bytes.specs.Bytes.{bytes-of}
+use Rattle.card_bytes.specs.Held.{card-of}
 use Rattle.card_bytes.specs.Records.{kind-by, card-verdict, Known}
-use Rattle.card_bytes.proofs.Kept.{head-stands}
-use Rattle.card_bytes.proofs.RoundTrip.{accepted-whole}
+use Rattle.card_bytes.proofs.Kept.{Numbers, head-stands}
+use Rattle.card_bytes.proofs.RoundTrip.{read-written, accepted-whole, accepted-card, demand-3-of-bytes}
 
 pub known-by : (s : List ℕ) → Known (kind-by s)
 unfolding kind-by
@@ -58,7 +63,42 @@ module _ {K : Kind} (known : Known K) where
   pub accepted-kind : (s : List ℕ) → card-verdict K s ≡ accepted → kind-by s ≡ K
   accepted-kind s e = headed-kind s (accepted-whole K s e .headed)
 
--- ---- what stands behind it
+  -- what was written is read back as a card of its kind
+  pub record Read-back (c : Card) : Type 0 where
+    pub card : card-of (bytes-of K c) ≡ c
+    pub kind : kind-by (bytes-of K c) ≡ K
+    pub accepts : card-verdict (kind-by (bytes-of K c)) (bytes-of K c) ≡ accepted
+
+  pub read-back : (c : Card) → Numbers c → verdict K c ≡ accepted → Read-back c
+  unfolding quintic
+  read-back c h e =
+      let l = limits known in
+      let r = read-written K c (l .head) (omega (arith, l .most)) h e in
+      let k = written-kind c in
+      record { card = r .card; kind = k; accepts = ap (λ L. card-verdict L (bytes-of K c)) k ∙ r .accepts }
+
+-- ---- accepted bytes
+
+module _ (s : List ℕ) (e : card-verdict (kind-by s) s ≡ accepted) where
+  pub accepted-good : Good (kind-by s) (card-of s)
+  accepted-good = good (kind-by s) (card-of s) (accepted-card (kind-by s) s e)
+
+  -- as many knots as document 01 allows
+  pub record Counted : Type 0 where
+    pub some : quintic .fewest-knots ≤ knots (card-of s)
+    pub many : knots (card-of s) ≤ quintic .most-knots
+
+  pub accepted-count : Counted
+  accepted-count =
+      let l = limits (known-by s) in
+      let g = accepted-good in
+      record { some = omega (arith, l .fewest, g .few); many = omega (arith, l .most, g .many) }
+
+  pub demand-3-by-head : Demand3 (kind-by s) (card-of s)
+  unfolding quintic
+  demand-3-by-head = demand-3-of-bytes (kind-by s) s e (omega (arith, limits (known-by s) .fewest))
+
+-- ---- what stands behind the head
 
 pub kind-in-front : (n : ℕ) (s : List ℕ) → n ≤ length s → 10 ≤ n → kind-by (take n s) ≡ kind-by s
 unfolding kind-by

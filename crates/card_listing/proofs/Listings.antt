@@ -1,5 +1,5 @@
--- What the lister prints, by what the reading of the card answers and leaves in four lists of as many places as a card may have knots.
--- Assumes nothing.
+-- What the lister prints, by what the reading of the card answers and leaves in four lists of as many places as
+-- a card may have knots. Assumes nothing.
 use Prim.Native.Nat.{ℕ, _≤_}
 use mathlib.Core.Path.{_≡_, refl, ap, _∙_}
 use mathlib.Core.List.{List, []}
@@ -14,20 +14,16 @@ use Rattle.curve.specs.Kind.{quintic}
 use Rattle.curve.specs.Card.{knots}
 use Rattle.curve.specs.Steps.{lengths, room}
 use Rattle.curve.specs.Orders.{lists-order}
-use Rattle.curve.proofs.Accepted.{Good, good}
-use Rattle.card_bytes.specs.Bytes.{quintic-head}
 use Rattle.card_bytes.specs.Held.{card-of}
 use Rattle.decode.specs.Decoded.{most}
-use Rattle.card_bytes.proofs.RoundTrip.{accepted-card}
+use Rattle.card_bytes.specs.Records.{kind-by}
+use Rattle.card_bytes.proofs.ByHead.{accepted-good, accepted-count}
 use Rattle.card.specs.declared.Checked.{Checked}
 use Rattle.answer.specs.Lent.{lent-after}
 use Rattle.card.specs.Answers.{own, checked}
 use Rattle.card.specs.Promise.{Lists, into, Reads}
 use Rattle.listing.specs.Text.{listing}
 use Rattle.card_listing.specs.Printed.{card-listing, printed}
-
-pub held : (s : List ℕ) → own s ≡ accepted → Good quintic (card-of s)
-held s e = good quintic (card-of s) (accepted-card quintic quintic-head s e)
 
 -- four lists of as many places as a card may have knots
 pub record Roomy (l : Lists) : Type 0 where
@@ -44,17 +40,17 @@ module _ (s : List ℕ) {l : Lists} (roomy : Roomy l) where
     where
       go : (v : Verdict) → own s ≡ v → (v then refuse 26 0 (ltb most (knots (card-of s)))) ≡ v
       go (refused number place) e = refl
-      go (given u) e = accepts-refuse 26 0 (le-ltb most (knots (card-of s)) (held s e .many))
+      go (given u) e = accepts-refuse 26 0 (le-ltb most (knots (card-of s)) (accepted-count s e .many))
 
   module _ {exit : Lists} {r : Checked} (reads : Reads s l exit r) where
-    is-own : r ≡ checked (own s) (card-of s)
-    is-own = reads .answer ∙ ap (λ v. checked v (card-of s)) into-own
+    is-own : r ≡ checked (own s) (kind-by s) (card-of s)
+    is-own = reads .answer ∙ ap (λ v. checked v (kind-by s) (card-of s)) into-own
 
     pub own-number : (r .number ≡ number (own s)) × (r .place ≡ place (own s))
     unfolding checked number place
     own-number = rw is-own (go (own s))
       where
-        go : (v : Verdict) → (checked v (card-of s) .number ≡ number v) × (checked v (card-of s) .place ≡ place v)
+        go : (v : Verdict) → (checked v (kind-by s) (card-of s) .number ≡ number v) × (checked v (kind-by s) (card-of s) .place ≡ place v)
         go (refused number place) = (refl, refl)
         go (given u) = (refl, refl)
 
@@ -62,9 +58,9 @@ module _ (s : List ℕ) {l : Lists} (roomy : Roomy l) where
     unfolding checked quintic
     few = rw is-own (go (own s) refl)
       where
-        go : (v : Verdict) → own s ≡ v → checked v (card-of s) .knots ≤ most
+        go : (v : Verdict) → own s ≡ v → checked v (kind-by s) (card-of s) .knots ≤ most
         go (refused number place) e = omega arith
-        go (given u) e = held s e .many
+        go (given u) e = accepted-count s e .many
 
     pub printed-read : (let n = r .knots in listing (r .number) (r .place) (take n (exit .minutes)) (take n (exit .ordinates)) (take n (exit .slopes)) (take n (exit .curvatures)) [] ≡ printed s)
     unfolding printed card-listing checked lent-after knots
@@ -72,13 +68,13 @@ module _ (s : List ℕ) {l : Lists} (roomy : Roomy l) where
       where
         go : (v : Verdict) → own s ≡ v
             → (let c = card-of s in
-            let r = checked v c in
+            let r = checked v (kind-by s) c in
             listing (r .number) (r .place) (take (r .knots) (lent-after v (c .minutes) (l .minutes))) (take (r .knots) (lent-after v (c .ordinates) (l .ordinates)))
             (take (r .knots) (lent-after v (c .slopes) (l .slopes))) (take (r .knots) (lent-after v (c .curvatures) (l .curvatures))) []
             ≡ card-listing v c)
         go (refused number place) e = refl
         go (given u) e =
             let c = card-of s in
-            let g = held s e in
+            let g = accepted-good s e in
             let n = length (c .minutes) in
             rw (take-at (c .minutes) _ n refl, take-at (c .ordinates) _ n (g .ys), take-at (c .slopes) _ n (g .ms), take-at (c .curvatures) _ n (g .Ms))

@@ -60,8 +60,12 @@ pub record Ready (c : Card) (lent : ℕ) : Type 0 where
   pub curvatures : length (c .curvatures) ≡ length (c .minutes)
   pub room : size (length (c .minutes)) ≤ lent
 
+pub has-room : (K : Kind) (c : Card) (lent : ℕ) → write-order K c lent ≡ accepted → size (knots c) ≤ lent
+unfolding write-order room
+has-room K c lent e = ltb-false _ _ (refuse-accepts 26 0 _ (next-accepts (verdict K c) _ e))
+
 pub ready-of : (k : Carried) (c : Card) (lent : ℕ) → write-order (kind-of k) c lent ≡ accepted → Ready c lent
-unfolding write-order room knots
+unfolding write-order knots
 ready-of k c lent e =
     let g = good (kind-of k) c (first-accepts _ _ e) in
     record {
@@ -69,15 +73,12 @@ ready-of k c lent e =
       ordinates = g .ys;
       slopes = g .ms;
       curvatures = g .Ms;
-      room = ltb-false _ _ (refuse-accepts 26 0 _ (next-accepts (verdict (kind-of k) c) _ e));
+      room = has-room (kind-of k) c lent e;
     }
 
 -- ---- what the buffer holds afterwards
 
-module _ (k : Carried) (c : Card) (entry : List ℕ) where
-  abbrev K : Kind
-  K = kind-of k
-
+module _ (K : Kind) (c : Card) (entry : List ℕ) where
   pub writes-refused : {n p : ℕ} → write-order K c (length entry) ≡ refused n p → Writes K c entry entry (record { number = n; place = p; bytes = 0 })
   unfolding written
   writes-refused e = record { answer = rw e; buffer = after-refused (bytes-of K c) entry e }
@@ -85,5 +86,5 @@ module _ (k : Carried) (c : Card) (entry : List ℕ) where
   pub writes-given : {exit : List ℕ} → write-order K c (length entry) ≡ accepted → exit ≡ sets entry 0 (bytes-of K c) → Writes K c entry exit (record { number = 0; place = 0; bytes = size (length (c .minutes)) })
   unfolding written knots
   writes-given e stored =
-      let l : length (bytes-of K c) ≤ length entry = rw (length-card K c) (ready-of k c (length entry) e .room) in
+      let l : length (bytes-of K c) ≤ length entry = rw (length-card K c) (has-room K c (length entry) e) in
       record { answer = rw e; buffer = after-stored (bytes-of K c) entry e l stored }

@@ -36,7 +36,7 @@ ready c = ready-of (kind (c .before .before)) _ _ (accepts c)
 returns : tie.Need-returns
 returns c =
     let w = c .before .before .before in
-    writes-refused (kind w) (card w) (buffer w) (step-refused (w .writable .ensures) (c .before .verdict .given .1))
+    writes-refused (kind-of (kind w)) (card w) (buffer w) (step-refused (w .writable .ensures) (c .before .verdict .given .1))
 
 put-card-requires : tie.Need-put-card-requires
 put-card-requires c κs = let t = ready (c .before) in omega arith
@@ -54,7 +54,7 @@ returns-2 : tie.Need-returns-2
 returns-2 c =
     let e = c .before .before .before .before in
     let w = e .before .before in
-    writes-given (kind w) (card w) (buffer w) (accepts e) (c .before .before .put-card .ensures)
+    writes-given (kind-of (kind w)) (card w) (buffer w) (accepts e) (c .before .before .put-card .ensures)
 
 pub write-as-spec : {M : Type 1} → statement M
 write-as-spec =
