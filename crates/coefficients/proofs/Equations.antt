@@ -23,7 +23,7 @@ row fourth v = v .s
 row third v = v .c
 
 -- in the solver's expressions
-abbrev expressions : Arithmetic Expression
+abbrev pub expressions : Arithmetic Expression
 expressions =
     record {
       _⊕_ = _:+_;

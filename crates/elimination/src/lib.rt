@@ -202,7 +202,8 @@ fn sound(d: f64, x: State) -> bool
     }
 }
 
-fn judge(d: f64, x: State) -> Step
+// The tests of 8 at a knot that was divided by d.
+pub fn judge(d: f64, x: State) -> Step
     ensures { λ r. ⌜ r ≡ judged d x ⌝ }
 {
     if sound(d, x) {

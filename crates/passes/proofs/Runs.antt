@@ -10,8 +10,10 @@ use lib.IntN.{ℤ}
 use Rattle.rows.specs.declared.Gap.{Gap}
 use Rattle.elimination.specs.declared.State.{State}
 use Rattle.elimination.specs.declared.Step.{Step}
-use Rattle.rows.specs.declared.End.{End}
-use Rattle.passes.specs.Sheet.{knot-between, left-gap, right-gap, knot-at}
+use Rattle.passes.specs.declared.Job.{Job}
+use Rattle.passes.specs.declared.Job.the-variants.{Ends, Slopes}
+use Rattle.passes.specs.Sheet.{knot-between, line-between, left-gap, right-gap, knot-at, line-at}
+use Rattle.passes.specs.Jobs.{between-by, step-by}
 use Rattle.passes.specs.Forward.{Run, going, stuck, landed, advance, runTo}
 
 module _ (step : State → ℕ → Step) where
@@ -33,8 +35,12 @@ module _ (step step′ : State → ℕ → Step) (n : ℕ) (same : (before : Sta
   run-same zero h = refl
   run-same (suc i) h = ap (advance step i) (run-same i (le-of-lt h)) ∙ advance-same i h (runTo step′ i)
 
--- a knot between the gaps on its left and right
-pub knot-is : (minutes : List ℕ) (ordinates : List ℤ) (left right : End) (p g : Gap) (before : State) (i : ℕ)
-    → p ≡ left-gap minutes ordinates i → g ≡ right-gap minutes ordinates i → knot-between (length minutes) left right p g before i ≡ knot-at minutes ordinates left right before i
-unfolding knot-at
-knot-is minutes ordinates left right p g before i e f = ap₂ (λ (x y : Gap). knot-between (length minutes) left right x y before i) e f
+-- a knot between the gaps on its left and right, of either job
+pub knot-is : (minutes : List ℕ) (ordinates slopes : List ℤ) (job : Job) (p g : Gap) (before : State) (i : ℕ)
+    → length slopes ≡ length minutes → p ≡ left-gap minutes ordinates i → g ≡ right-gap minutes ordinates i
+    → between-by slopes job p g before i ≡ step-by minutes ordinates slopes job before i
+unfolding knot-at line-at
+knot-is minutes ordinates slopes (Ends left right) p g before i n e f =
+    ap₂ (λ (x y : Gap). knot-between (length slopes) left right x y before i) e f
+    ∙ ap (λ (k : ℕ). knot-between k left right (left-gap minutes ordinates i) (right-gap minutes ordinates i) before i) n
+knot-is minutes ordinates slopes Slopes p g before i n e f = ap₂ (λ (x y : Gap). line-between slopes x y before i) e f

@@ -1,4 +1,5 @@
 pub mod Sheet
+pub mod Jobs
 pub mod Forward
 pub mod Back
 pub mod Passes

@@ -1,10 +1,13 @@
 // The two passes of the fit's elimination over a sheet of knots, forward and back, after document 01's "The elimination,
-// rounded once per operation": they give each knot's slope and curvature, or number 8 at the knot where it is first met.
+// rounded once per operation" and document 02's "Values with measured slopes": they give each knot's slope and curvature, or number 8 at the knot where it is first
+// met. Where the slopes are given, the curvatures alone are solved for, and zeros stand for the slopes.
 ghost use mathlib.Core.Path.{_≡_};
 ghost use Prim.Native.Nat.{_+_, _≤_, _<_};
+ghost use lib.IntN.{pos};
 ghost use lib.ListN.{length, getD};
-ghost use Rattle.elimination.specs.Elimination.{backward};
-ghost use Rattle.passes.specs.Sheet.{most, Rising, end-of, knot-between, right-gap, knot-at};
+ghost use Rattle.lines.specs.Lines.{hundredths};
+ghost use Rattle.passes.specs.Sheet.{most, Rising, end-of, knot-between, right-gap, slope-before, slope-after, line-between};
+ghost use Rattle.passes.specs.Jobs.{between-by, step-by, turn-by};
 ghost use Rattle.passes.specs.Forward.{no-state, Forwarded};
 ghost use Rattle.passes.specs.Back.{turned};
 ghost use Rattle.passes.specs.Passes.{refused, back-from, passes};
@@ -19,6 +22,12 @@ pub const MOST: usize = 64;
 
 // The number of a step that is stuck.
 const STUCK: u32 = 8;
+
+// What is solved for: the slopes and curvatures between two ends, or the curvatures alone, the slopes given.
+pub enum Job {
+    Ends(End, End),
+    Slopes,
+}
 
 // The pairs of the knots, zeros behind them and behind a refusal.
 pub struct Solved {
@@ -69,11 +78,79 @@ fn knot(n: usize, left: End, right: End, p: Gap, g: Gap, before: State, i: usize
     elimination::eliminate(row, before, i == 0, i + 1 == n)
 }
 
+// ---- the slopes given
+
+// Of knot i, as a float.
+fn slope_of(slopes: &[i32], i: usize) -> f64
+    requires { ⌜ i < length (now slopes) ⌝ }
+    ensures { λ r. ⌜ r ≡ hundredths (getD (now (slopes .entry)) i (pos 0)) ⌝ }
+{
+    let m = slopes[i];
+    lines::hundredths(m)
+}
+
+// Of the knot before knot i; the first has none.
+fn slope_before(slopes: &[i32], i: usize) -> f64
+    requires { ⌜ i < length (now slopes) ⌝ }
+    ensures { λ r. ⌜ r ≡ slope-before (now (slopes .entry)) i ⌝ }
+{
+    if i == 0 { 0.0 } else { slope_of(slopes, i - 1) }
+}
+
+// Of the knot after knot i; the last has none.
+fn slope_after(slopes: &[i32], i: usize) -> f64
+    requires { ⌜ (i < length (now slopes)) × (length (now slopes) ≤ most) ⌝ }
+    ensures { λ r. ⌜ r ≡ slope-after (now (slopes .entry)) i ⌝ }
+{
+    if i + 1 == slopes.len() {
+        0.0
+    } else {
+        slope_of(slopes, i + 1)
+    }
+}
+
+// Knot i between the gaps p and g, given what elimination left of the one before.
+fn line_knot(slopes: &[i32], p: Gap, g: Gap, before: State, i: usize) -> Step
+    requires { ⌜ (i < length (now slopes)) × (length (now slopes) ≤ most) ⌝ }
+    ensures { λ r. ⌜ r ≡ line-between (now (slopes .entry)) p g before i ⌝ }
+{
+    let line = lines::line_of(
+        p,
+        g,
+        slope_before(slopes, i),
+        slope_of(slopes, i),
+        slope_after(slopes, i),
+    );
+    lines::eliminate(line, before, i == 0, i + 1 == slopes.len())
+}
+
+// ---- either job
+
+// One knot for each slope.
+fn knot_by(slopes: &[i32], job: Job, p: Gap, g: Gap, before: State, i: usize) -> Step
+    requires { ⌜ (i < length (now slopes)) × (length (now slopes) ≤ most) ⌝ }
+    ensures { λ r. ⌜ r ≡ between-by (now (slopes .entry)) job p g before i ⌝ }
+{
+    match job {
+        Job::Ends(left, right) => knot(slopes.len(), left, right, p, g, before, i),
+        Job::Slopes => line_knot(slopes, p, g, before, i),
+    }
+}
+
+fn back_by(job: Job, x: State, next: Pair) -> Pair
+    ensures { λ r. ⌜ r ≡ turn-by job x next ⌝ }
+{
+    match job {
+        Job::Ends(left, right) => elimination::back(x, next),
+        Job::Slopes => lines::back(x, next),
+    }
+}
+
 // The gap on a knot's right is kept for the next, whose left it is.
-fn forward_pass(minutes: &[u16], ordinates: &[i16], left: End, right: End) -> Forward
-    requires { ⌜ (length (now minutes) ≤ most) × (length (now ordinates) ≡ length (now minutes)) ⌝ }
+fn forward_pass(minutes: &[u16], ordinates: &[i16], slopes: &[i32], job: Job) -> Forward
+    requires { ⌜ (length (now minutes) ≤ most) × (length (now ordinates) ≡ length (now minutes)) × (length (now slopes) ≡ length (now minutes)) ⌝ }
     requires { ⌜ Rising (now minutes) ⌝ }
-    ensures { λ r. ⌜ Forwarded (knot-at (now (minutes .entry)) (now (ordinates .entry)) left right) (length (now (minutes .entry))) r ⌝ }
+    ensures { λ r. ⌜ Forwarded (step-by (now (minutes .entry)) (now (ordinates .entry)) (now (slopes .entry)) job) (length (now (minutes .entry))) r ⌝ }
 {
     let zero = elimination::start();
     let mut states = [zero; MOST];
@@ -82,7 +159,7 @@ fn forward_pass(minutes: &[u16], ordinates: &[i16], left: End, right: End) -> Fo
     let mut i = 0;
     while i < minutes.len() {
         let g = gap_after(minutes, ordinates, i);
-        let x = knot(minutes.len(), left, right, p, g, before, i);
+        let x = knot_by(slopes, job, p, g, before, i);
         match x {
             Step::Went(s) => {
                 states[i] = s;
@@ -107,14 +184,10 @@ fn forward_pass(minutes: &[u16], ordinates: &[i16], left: End, right: End) -> Fo
 }
 
 // The pair of a knot with j knots behind it.
-fn pair_before(x: State, next: Pair, j: usize) -> Pair
-    ensures { λ r. ⌜ r ≡ turned backward x next j ⌝ }
+fn pair_before(job: Job, x: State, next: Pair, j: usize) -> Pair
+    ensures { λ r. ⌜ r ≡ turned (turn-by job) x next j ⌝ }
 {
-    if j == 0 {
-        x.p
-    } else {
-        elimination::back(x, next)
-    }
+    if j == 0 { x.p } else { back_by(job, x, next) }
 }
 
 fn refuse(place: u32) -> Solved
@@ -128,9 +201,9 @@ fn refuse(place: u32) -> Solved
     }
 }
 
-fn back_pass(states: [State; MOST], n: usize) -> Solved
+fn back_pass(job: Job, states: [State; MOST], n: usize) -> Solved
     requires { ⌜ n ≤ most ⌝ }
-    ensures { λ r. ⌜ r ≡ back-from backward (λ k. getD states k no-state) n ⌝ }
+    ensures { λ r. ⌜ r ≡ back-from (turn-by job) (λ k. getD states k no-state) n ⌝ }
 {
     let zero = elimination::no_pair();
     let mut pairs = [zero; MOST];
@@ -139,7 +212,7 @@ fn back_pass(states: [State; MOST], n: usize) -> Solved
     while j < n {
         let k = n - 1 - j;
         let x = states[k];
-        let v = pair_before(x, next, j);
+        let v = pair_before(job, x, next, j);
         if elimination::finite_pair(v) {
             pairs[k] = v;
             next = v;
@@ -155,16 +228,16 @@ fn back_pass(states: [State; MOST], n: usize) -> Solved
     }
 }
 
-// The slope and the curvature of each knot, in hundredths per minute (squared): forward, then back.
-pub fn pairs_of(minutes: &[u16], ordinates: &[i16], left: End, right: End) -> Solved
-    requires { ⌜ (length (now minutes) ≤ most) × (length (now ordinates) ≡ length (now minutes)) ⌝ }
+// The slope and the curvature of each knot, in hundredths per minute (squared): forward, then back. The slopes count only where they are given.
+pub fn pairs_of(minutes: &[u16], ordinates: &[i16], slopes: &[i32], job: Job) -> Solved
+    requires { ⌜ (length (now minutes) ≤ most) × (length (now ordinates) ≡ length (now minutes)) × (length (now slopes) ≡ length (now minutes)) ⌝ }
     requires { ⌜ Rising (now minutes) ⌝ }
-    ensures { λ r. ⌜ r ≡ passes (knot-at (now (minutes .entry)) (now (ordinates .entry)) left right) backward (length (now (minutes .entry))) ⌝ }
+    ensures { λ r. ⌜ r ≡ passes (step-by (now (minutes .entry)) (now (ordinates .entry)) (now (slopes .entry)) job) (turn-by job) (length (now (minutes .entry))) ⌝ }
 {
-    let f = forward_pass(minutes, ordinates, left, right);
+    let f = forward_pass(minutes, ordinates, slopes, job);
     if f.number == 0 {
         let states = f.states;
-        back_pass(states, minutes.len())
+        back_pass(job, states, minutes.len())
     } else {
         refuse(f.place)
     }

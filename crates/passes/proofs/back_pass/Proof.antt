@@ -8,8 +8,8 @@ use mathlib.Core.Bool.{true, false}
 use mathlib.Core.List.{List}
 use lib.ListN.{length, getD, length-set, getD-replicate}
 use Rattle.elimination.specs.declared.State.{State}
-use Rattle.elimination.specs.Elimination.{backward}
 use Rattle.passes.specs.Sheet.{most}
+use Rattle.passes.specs.Jobs.{turn-by}
 use Rattle.passes.specs.Forward.{no-state}
 use Rattle.passes.specs.Back.{back, pair-of, backTo, pair-at, no-pair}
 use Rattle.front.specs.Front.{listed}
@@ -24,11 +24,11 @@ abbrev at : List State → ℕ → State
 at states k = getD states k no-state
 
 abbrev Inv-loop : tie.InvT-loop
-Inv-loop n states pairs₀ next₀ j₀ pairs next j =
-    (j ≤ n) × (length pairs ≡ most) × (backTo backward (at states) n j ≡ back next) × ((k : ℕ) → n - j ≤ k → k < most → getD pairs k no-pair ≡ pair-at backward (at states) n k)
+Inv-loop job n states pairs₀ next₀ j₀ pairs next j =
+    (j ≤ n) × (length pairs ≡ most) × (backTo (turn-by job) (at states) n j ≡ back next) × ((k : ℕ) → n - j ≤ k → k < most → getD pairs k no-pair ≡ pair-at (turn-by job) (at states) n k)
 
 abbrev μ-loop : tie.MeasureT-loop
-μ-loop n states pairs₀ next₀ j₀ pairs next j = n - j
+μ-loop job n states pairs₀ next₀ j₀ pairs next j = n - j
 
 no-pair-requires : tie.Need-no-pair-requires Inv-loop μ-loop
 no-pair-requires c κs = search needs
@@ -38,7 +38,7 @@ unfolding backTo
 loop-holds c =
     let s = c .before .args in
     let zero = c .no-pair .ensures in
-    (zero-le, refl, ap back (sym zero), (λ k p q. getD-replicate most k (c .no-pair .result) no-pair q ∙ zero ∙ sym (zeros-behind backward (at (s .t1)) (s .n) k (omega arith))))
+    (zero-le, refl, ap back (sym zero), (λ k p q. getD-replicate most k (c .no-pair .result) no-pair q ∙ zero ∙ sym (zeros-behind (turn-by (s .job)) (at (s .t2)) (s .n) k (omega arith))))
 
 sub-k : tie.Need-sub-k Inv-loop μ-loop
 sub-k c = search needs
@@ -76,12 +76,12 @@ returns c =
     let s = c .before .before .before .before .before .before .before .before .args in
     let l = c .before .before .before .before .before .before .loop in
     let n = s .n in
-    let states = at (s .t1) in
+    let states = at (s .t2) in
     let v = c .before .before .before .pair-before .result in
     let under : l .j < n = c .before .before .before .before .before .loop-test .taken in
-    let r = goes-on backward states n (l .j) (l .next) v false (l .inv .2) (c .before .before .before .pair-before .ensures) (sym (c .before .before .finite-pair .ensures) ∙ c .before .if1 .left) in
-    let e = stays-stopped backward states n (suc (l .j)) (n - 1 - l .j) r n under in
-    c .refuse .ensures ∙ sym (ap (λ x. returned x (listed (pair-at backward states n) most)) e)
+    let r = goes-on (turn-by (s .job)) states n (l .j) (l .next) v false (l .inv .2) (c .before .before .before .pair-before .ensures) (sym (c .before .before .finite-pair .ensures) ∙ c .before .if1 .left) in
+    let e = stays-stopped (turn-by (s .job)) states n (suc (l .j)) (n - 1 - l .j) r n under in
+    c .refuse .ensures ∙ sym (ap (λ x. returned x (listed (pair-at (turn-by (s .job)) states n) most)) e)
 
 add-j : tie.Need-add-j Inv-loop μ-loop
 add-j c = search needs
@@ -94,14 +94,14 @@ loop-again c =
     let s = c .before .before .before .before .before .before .before .args in
     let l = c .before .before .before .before .before .loop in
     let n = s .n in
-    let states = at (s .t1) in
+    let states = at (s .t2) in
     let v = c .before .before .pair-before .result in
     let under : l .j < n = c .before .before .before .before .loop-test .taken in
-    let r = goes-on backward states n (l .j) (l .next) v true (l .inv .2) (c .before .before .pair-before .ensures) (sym (c .before .finite-pair .ensures) ∙ c .if1 .taken) in
+    let r = goes-on (turn-by (s .job)) states n (l .j) (l .next) v true (l .inv .2) (c .before .before .pair-before .ensures) (sym (c .before .finite-pair .ensures) ∙ c .if1 .taken) in
     let k = n - 1 - l .j in
     let room : k < length (l .pairs) = omega arith in
-    let above : (i : ℕ) → k < i → i < most → getD (l .pairs) i no-pair ≡ pair-at backward states n i = λ i p q. l .inv .3 i (omega arith) q in
-    let down = grown-down (pair-at backward states n) (l .pairs) most k v no-pair room (pair-here backward states n (l .j) under ∙ ap pair-of r) above in (
+    let above : (i : ℕ) → k < i → i < most → getD (l .pairs) i no-pair ≡ pair-at (turn-by (s .job)) states n i = λ i p q. l .inv .3 i (omega arith) q in
+    let down = grown-down (pair-at (turn-by (s .job)) states n) (l .pairs) most k v no-pair room (pair-here (turn-by (s .job)) states n (l .j) under ∙ ap pair-of r) above in (
       omega arith,
       simp length-set (l .inv .1),
       rw add-one r,
@@ -115,8 +115,8 @@ returns-2 c =
     let l = c .before .loop in
     let n = s .n in
     let j-is : l .j ≡ n = omega arith in
-    let e = ap (backTo backward (at (s .t1)) n) (sym j-is) ∙ l .inv .2 in
-    let all = is-listed (pair-at backward (at (s .t1)) n) no-pair most (l .pairs) (l .inv .1) (λ k p. l .inv .3 k (omega arith) p) in
+    let e = ap (backTo (turn-by (s .job)) (at (s .t2)) n) (sym j-is) ∙ l .inv .2 in
+    let all = is-listed (pair-at (turn-by (s .job)) (at (s .t2)) n) no-pair most (l .pairs) (l .inv .1) (λ k p. l .inv .3 k (omega arith) p) in
     sym (ap₂ returned e (sym all))
 
 pub back-pass-spec : {M : Type 1} → statement M
