@@ -7,6 +7,7 @@ use lib.IntN.{ℤ}
 use lib.ListN.{length}
 use Rattle.answer.specs.Answer.{Answer, refused, given, Verdict, accepted, _then_}
 use Rattle.answer.proofs.Steps.{first-accepts, next-accepts, both-accept, refuse-accepts}
+use Rattle.curve.specs.Kind.{quintic}
 use Rattle.curve.specs.Card.{Card, knots}
 use Rattle.exists.specs.Ended.{Ended}
 use Rattle.exists.specs.Sound.{Sound}
@@ -30,7 +31,7 @@ regroup (given u) (given v) c d = refl
 module _ (minutes : List ℕ) (ordinates : List ℤ) (left right : End) where
   -- the fit's answer is `before-8`, and then 8; 9; 10 and the card
   pub fit-goes-on : fit-between minutes ordinates (length minutes) (length minutes) left right
-      ≡ (before-8 minutes ordinates left right then eliminated minutes ordinates left right then tested (card-of minutes ordinates left right))
+      ≡ (before-8 minutes ordinates left right then eliminated minutes ordinates left right then tested quintic (card-of minutes ordinates left right))
   unfolding before-8
   fit-goes-on = sym (in-groups minutes ordinates left right (length minutes) (length minutes) accepted) ∙ regroup _ _ _ _
 

@@ -21,7 +21,7 @@ use Rattle.ends.proofs.Codes.{code-known, code-asked}
 use Rattle.numbers.specs.Numbers.{slope-at, curvature-at}
 use Rattle.fit.specs.Fit.{solved, card-of, fit-of, fit-codes, default-left, default-right, fit}
 
-abbrev card-in : Card → Answer Card → Card
+abbrev pub card-in : Card → Answer Card → Card
 card-in d (given c) = c
 card-in d (refused n p) = d
 
@@ -30,7 +30,7 @@ unfolding codes quintic
 codes-known left right = both-accept (accepts-refuse 15 0 (code-known left)) (accepts-refuse 15 1 (code-known right))
 
 -- of the fit's order: 3; 1, 2; 15; 4, 5, 6; 9, 10
-shared : (a b c d e f g : Verdict) → (a then b then c then d then e then f then g) ≡ accepted → (a ≡ accepted) × (b ≡ accepted) × (c ≡ accepted) × (d ≡ accepted) × (g ≡ accepted)
+pub shared : (a b c d e f g : Verdict) → (a then b then c then d then e then f then g) ≡ accepted → (a ≡ accepted) × (b ≡ accepted) × (c ≡ accepted) × (d ≡ accepted) × (g ≡ accepted)
 shared a b c d e f g h =
     let i = next-accepts a _ h in
     let j = next-accepts b _ i in

@@ -40,7 +40,7 @@ module _ (K : Kind) where
       never-then (never-each 0 _ 0 (knots c) (λ i l. numbered-refuse 9 i _ (lit< tt))) (never-each 0 _ 0 (knots c) (λ i l. numbered-refuse 10 i _ (lit< tt)))
 
 -- 8 comes with its number, or with none
-eight-numbered : (n p : ℕ) → Never 0 (numbered n p)
+pub eight-numbered : (n p : ℕ) → Never 0 (numbered n p)
 eight-numbered zero p = given-never
 eight-numbered (suc n) p = record { never = λ q e. let z : suc n ≡ 0 = cc in omega arith }
 

@@ -19,7 +19,7 @@ use Rattle.ends.specs.Ends.{ends}
 use Rattle.fit.specs.Fit.{tested, standing, eliminated, card-of, fit-of}
 use Rattle.fit.specs.Promise.{Alike}
 
-regroup : {A : Type 0} (a b c d e f g : Verdict) (h : Answer A) → ((a then b then c then d then e then f then g) then h) ≡ ((a then b then c) then (d then e) then f then g then h)
+pub regroup : {A : Type 0} (a b c d e f g : Verdict) (h : Answer A) → ((a then b then c then d then e then f then g) then h) ≡ ((a then b then c) then (d then e) then f then g then h)
 unfolding _then_
 regroup (refused n p) b c d e f g h = refl
 regroup (given u) (refused n p) c d e f g h = refl
@@ -31,7 +31,7 @@ regroup (given u) (given v) (given w) (given x) (given y) (given z) g h = refl
 
 module _ (xs : List ℕ) (ys : List ℤ) (left right : End) where
   pub in-groups : (ms Ms : ℕ) (named : Verdict)
-      → ((lengths (length xs) (length ys) ms Ms then counted quintic (length xs) then named) then standing xs ys left right then eliminated xs ys left right then tested (card-of xs ys left right))
+      → ((lengths (length xs) (length ys) ms Ms then counted quintic (length xs) then named) then standing xs ys left right then eliminated xs ys left right then tested quintic (card-of xs ys left right))
       ≡ fit-of xs ys left right ms Ms named
   unfolding fit-of fit-order standing tested card-of knots
   in-groups ms Ms named =

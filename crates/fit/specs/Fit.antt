@@ -7,7 +7,7 @@ use lib.IntN.{ℤ}
 use lib.Ieee.{Float}
 use Rattle.answer.specs.Answer.{Answer, given, Verdict, accepted, _then_, each}
 use Rattle.answer.specs.Judge.{numbered}
-use Rattle.curve.specs.Kind.{quintic}
+use Rattle.curve.specs.Kind.{Kind, quintic}
 use Rattle.curve.specs.Card.{Card}
 use Rattle.curve.specs.Steps.{codes, stands}
 use Rattle.curve.specs.Orders.{numbers-sound, fit-order}
@@ -25,8 +25,8 @@ use Rattle.ends.specs.Ends.{end-by, ends}
 use Rattle.numbers.specs.Numbers.{slope-at, curvature-at}
 
 -- a card, where 9 and 10 accept it
-unfoldable pub tested : Card → Answer Card
-tested c = numbers-sound quintic c then given c
+unfoldable pub tested : Kind → Card → Answer Card
+tested K c = numbers-sound K c then given c
 
 module _ (xs : List ℕ) (ys : List ℤ) (left right : End) where
   -- per knot 4, 5, 6; 7

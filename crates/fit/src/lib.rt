@@ -13,6 +13,7 @@ ghost use Rattle.fit.specs.Fit.{standing, eliminated, card-of, tested, f
 ghost use Rattle.fit.specs.Promise.{Fits, Alike, card-with};
 use answer::Judged;
 use numbers::Numbers;
+use passes::Job;
 use rows::End;
 
 // The ends of a fit that is asked without ends.
@@ -62,7 +63,7 @@ fn settle(
     requires { ⌜ each (stands quintic (now minutes) (now ordinates)) 0 (length (now minutes)) ≡ accepted ⌝ }
     ensures { λ r. ⌜
         Fits
-        (tested (card-with (now (minutes .entry)) (now (ordinates .entry)) left right numbers))
+        (tested quintic (card-with (now (minutes .entry)) (now (ordinates .entry)) left right numbers))
         (now (slopes .entry)) (now (curvatures .entry)) (now (slopes .exit)) (now (curvatures .exit)) r ⌝ }
 {
     let sound = judge(minutes, ordinates, left, right, numbers);
@@ -94,10 +95,10 @@ fn solve(
     requires { ⌜ each (stands quintic (now minutes) (now ordinates)) 0 (length (now minutes)) ≡ accepted ⌝ }
     ensures { λ r. ⌜
         Fits
-        (eliminated (now (minutes .entry)) (now (ordinates .entry)) left right then tested (card-of (now (minutes .entry)) (now (ordinates .entry)) left right))
+        (eliminated (now (minutes .entry)) (now (ordinates .entry)) left right then tested quintic (card-of (now (minutes .entry)) (now (ordinates .entry)) left right))
         (now (slopes .entry)) (now (curvatures .entry)) (now (slopes .exit)) (now (curvatures .exit)) r ⌝ }
 {
-    let solved = passes::pairs_of(minutes, ordinates, left, right);
+    let solved = passes::pairs_of(minutes, ordinates, slopes, Job::Ends(left, right));
     if solved.number == 0 {
         let pairs = solved.pairs;
         let numbers = numbers::scale(pairs, minutes.len());
@@ -122,7 +123,7 @@ fn stand_and_solve(
     requires { ⌜ Alike (now minutes) (now ordinates) (now slopes) (now curvatures) ⌝ }
     ensures { λ r. ⌜
         Fits
-        (standing (now (minutes .entry)) (now (ordinates .entry)) left right then eliminated (now (minutes .entry)) (now (ordinates .entry)) left right then tested (card-of (now (minutes .entry)) (now (ordinates .entry)) left right))
+        (standing (now (minutes .entry)) (now (ordinates .entry)) left right then eliminated (now (minutes .entry)) (now (ordinates .entry)) left right then tested quintic (card-of (now (minutes .entry)) (now (ordinates .entry)) left right))
         (now (slopes .entry)) (now (curvatures .entry)) (now (slopes .exit)) (now (curvatures .exit)) r ⌝ }
 {
     let stood = answer::first(

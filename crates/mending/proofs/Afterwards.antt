@@ -38,11 +38,11 @@ module _ (xs : List ℕ) (ys : List ℤ) (ms Ms room : ℕ) (e : mend-order xs y
   in-range = stood (first-accepts _ _ mended-is-standing) .ordinates
 
   -- what is left of the order: 8; 9; 10
-  pub only-8-9-10 : mend xs ys ms Ms room ≡ (eliminated xs (mended xs ys) Free Free then tested (card-of xs (mended xs ys) Free Free))
+  pub only-8-9-10 : mend xs ys ms Ms room ≡ (eliminated xs (mended xs ys) Free Free then tested quintic (card-of xs (mended xs ys) Free Free))
   unfolding mend _then_
   only-8-9-10 =
       let zs = mended xs ys in
-      let rest = eliminated xs zs Free Free then tested (card-of xs zs Free Free) in
+      let rest = eliminated xs zs Free Free then tested quintic (card-of xs zs Free Free) in
       let alike : lengths (length xs) (length zs) ms Ms ≡ accepted = ap (λ n. lengths (length xs) n ms Ms) (length-filled xs ys Line) ∙ sized .0 in
       ap (λ v. v then fit-between xs zs ms Ms Free Free) e
       ∙ sym (in-groups xs zs Free Free ms Ms accepted)

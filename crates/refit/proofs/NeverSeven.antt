@@ -132,12 +132,12 @@ module _ (c : Card) (e : verdict quintic c ≡ accepted) where
       both-accept (first-accepts _ _ (sized .3)) (both-accept (accepts-refuse 7 0 (own-fit (c .left) 0 (omega arith))) (accepts-refuse 7 (knots c - 1) (own-fit (c .right) (knots c - 1) (omega arith))))
 
   -- what is left of the fit's order: 8; 9; 10
-  pub only-8-9-10 : fresh c ≡ (eliminated (c .minutes) (c .ordinates) left right then tested (card-of (c .minutes) (c .ordinates) left right))
+  pub only-8-9-10 : fresh c ≡ (eliminated (c .minutes) (c .ordinates) left right then tested quintic (card-of (c .minutes) (c .ordinates) left right))
   unfolding fresh knots _then_
   only-8-9-10 =
       let n = knots c in
       let g = good quintic c e in
-      let rest = eliminated (c .minutes) (c .ordinates) left right then tested (card-of (c .minutes) (c .ordinates) left right) in
+      let rest = eliminated (c .minutes) (c .ordinates) left right then tested quintic (card-of (c .minutes) (c .ordinates) left right) in
       let alike : lengths n (length (c .ordinates)) n n ≡ accepted = ap₂ (lengths n (length (c .ordinates))) (sym (g .ms)) (sym (g .Ms)) ∙ sized .0 in
       sym (in-groups (c .minutes) (c .ordinates) left right n n (codes quintic (c .left) (c .right)))
       ∙ ap (λ v. v then standing (c .minutes) (c .ordinates) left right then rest) (both-accept alike (both-accept (sized .1) (sized .2)))

@@ -7,17 +7,17 @@ use Rattle.passes.specs.declared.Solved.{Solved}
 use Rattle.passes.specs.Back.{no-pair}
 use Rattle.passes.proofs.Answers.{pairs-finite}
 use Rattle.fit.proofs.Fitting.{fits-along, fits-refused}
-use Rattle.fit.proofs.Worked.{met, worked-out}
+use Rattle.fit.proofs.Worked.{refused-8, worked-out}
 use borrow.Author.Needs.{needs}
 use Rattle.fit.proofs.solve.Statement.{statement}
 use Rattle.fit.proofs.solve.Tie as tie
 
 pairs-of-requires : tie.Need-pairs-of-requires
-pairs-of-requires c κs = let s = c .before in ((s .pre .0 .many, s .pre .0 .ordinates), stood (s .pre .1) .rising)
+pairs-of-requires c κs = let s = c .before .before in ((s .pre .0 .many, s .pre .0 .ordinates, s .pre .0 .slopes), stood (s .pre .1) .rising)
 
 scale-requires : tie.Need-scale-requires
 scale-requires c κs =
-    let s = c .before .before .before .before .before in
+    let s = c .before .before .before .before .before .before in
     let p = c .before .before .before .pairs-of in
     (s .pre .0 .many, λ k h. ap (λ (q : Solved). both-finite (getD (q .pairs) k no-pair)) (p .ensures) ∙ pairs-finite _ _ _ k h)
 
@@ -34,10 +34,13 @@ returns : tie.Need-returns
 returns c =
     let p = c .before .before .before .before .before .before .before .before .before .pairs-of in
     let x = c .before .before .before .before .before .scale in
-    fits-along (worked-out _ _ _ _ (p .result) (p .ensures) (x .result) (c .before .before .before .before .before .before .before .if1 .taken) (x .ensures)) (c .before .before .settle .ensures)
+    fits-along (worked-out _ _ _ _ (p .ensures) (c .before .before .before .before .before .before .before .if1 .taken) (x .ensures)) (c .before .before .settle .ensures)
+
+same-length-3 : tie.Need-same-length-3
+same-length-3 c = search needs
 
 returns-2 : tie.Need-returns-2
-returns-2 c = let p = c .before .before .pairs-of in fits-along (met _ _ _ _ (p .result) (p .ensures) (c .if1 .left)) fits-refused
+returns-2 c = let p = c .before .before .pairs-of in fits-along (refused-8 _ _ _ _ (p .ensures) (c .if1 .left)) fits-refused
 
 pub solve-spec : {M : Type 1} → statement M
 solve-spec =
@@ -49,4 +52,5 @@ solve-spec =
     same-length
     same-length-2
     returns
+    same-length-3
     returns-2)
