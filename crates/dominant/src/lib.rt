@@ -1,0 +1,1 @@
+// Laws only (proofs/): equations whose middle number outweighs its neighbours, bounded and solved.
