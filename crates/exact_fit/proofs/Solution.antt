@@ -9,11 +9,12 @@ use Rattle.answer.specs.Answer.{Answer, refused, given, Verdict, accepted, _the
 use Rattle.answer.proofs.Steps.{first-accepts, next-accepts, both-accept, refuse-accepts}
 use Rattle.curve.specs.Kind.{quintic}
 use Rattle.curve.specs.Card.{Card, knots}
+use Rattle.curve.proofs.NeverTen.{quintic-enough}
 use Rattle.exists.specs.Ended.{Ended}
 use Rattle.exists.specs.Sound.{Sound}
 use Rattle.exists.proofs.Exists.{exact-once}
 use Rattle.exists.proofs.Rounded.{rounded-never-10}
-use Rattle.exists.proofs.Judged.{sound-rises, sound-sheet}
+use Rattle.exists.proofs.Judged.{quintic-rises, sound-sheet}
 use Rattle.rows.specs.declared.End.{End}
 use Rattle.ends.specs.Ends.{unfit-end, ends}
 use Rattle.fit.specs.Fit.{tested, standing, eliminated, card-of, fit-of, fit-between}
@@ -40,7 +41,7 @@ module _ (minutes : List ℕ) (ordinates : List ℤ) (left right : End) where
     unfolding before-8
     stands = next-accepts _ _ (next-accepts _ _ passed)
 
-    sound : Sound (sheet minutes ordinates left right)
+    sound : Sound quintic (sheet minutes ordinates left right)
     unfolding before-8 knots
     sound =
         record {
@@ -73,9 +74,9 @@ module _ (minutes : List ℕ) (ordinates : List ℤ) (left right : End) where
         let found = sound-sheet sound (given-by left) (given-by right) in
         record {
           solution = as-numbers (found .0);
-          only = λ other. exact-once _ (sound-rises sound) (given-by left) (given-by right) (found .0) (as-fractions other);
+          only = λ other. exact-once _ (quintic-rises sound) (given-by left) (given-by right) (found .0) (as-fractions other);
           only-9 = found .1;
-          never-10 = rounded-never-10 (found .0 .exact);
+          never-10 = rounded-never-10 (found .0 .exact) quintic-enough;
         }
 
   -- so there is one behind each card that a fit gives, whether its ends came by kind or by code

@@ -7,7 +7,6 @@ use mathlib.Core.List.{List, []}
 use Prim.Native.Nat.{ℕ, _-_, _<_}
 use lib.IntN.{ℤ}
 use lib.ListN.{length}
-use Rattle.whole.specs.Whole.{_·_}
 use Rattle.answer.specs.Answer.{Verdict, _then_, each, number}
 use Rattle.curve.specs.Kind.{quintic}
 use Rattle.curve.specs.Card.{Card}
@@ -16,14 +15,11 @@ use Rattle.curve.specs.Orders.{verdict}
 use Rattle.curve.specs.Exact.{Exact}
 use Rattle.knots.specs.Lent.{lent}
 use Rattle.exists.specs.Rounded.{rounded}
+use Rattle.exists.specs.Same.{Same}
 use Rattle.rows.specs.declared.End.{End}
 use Rattle.rows.specs.Equations.{code}
 use Rattle.fit.specs.Fit.{standing}
 use Rattle.exact_fit.specs.Given.{HasGiven}
-
--- slope and curvature at place i are the same fractions in both
-abbrev pub Same : {card : Card} (e f : Exact quintic card) (i : ℕ) → Type 0
-Same e f i = (f .q · e .s i ≡ e .q · f .s i) × (f .q · e .c i ≡ e .q · f .c i)
 
 module _ (minutes : List ℕ) (ordinates : List ℤ) (left right : End) where
   abbrev n : ℕ
