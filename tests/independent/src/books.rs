@@ -4,7 +4,7 @@
 use crate::compare::{self, Tally};
 use crate::curves::{self, Numbers};
 use crate::random::Random;
-use crate::reference::{self, book_bytes, CARD_NUMBER_LIMIT, LONGEST_BOOK, MOST_KNOTS, ORDINATE_LIMIT};
+use crate::reference::{self, book_bytes, Kind, CARD_NUMBER_LIMIT, LONGEST_BOOK, MOST_KNOTS, ORDINATE_LIMIT};
 use std::collections::BTreeMap;
 
 const CLOSING: [u8; 4] = [0, 0, 3, 0];
@@ -64,7 +64,7 @@ fn refused_cards(random: &mut Random) -> Vec<Vec<u8>> {
     }
     for n in [0, 2, MOST_KNOTS + 1] {
         let sheet = curves::sheet(random, n);
-        cards.push(Numbers { sheet, slopes: vec![0; n], curvatures: vec![0; n], left: 0, right: 0 }.bytes());
+        cards.push(Numbers { kind: Kind::Quintic, sheet, slopes: vec![0; n], curvatures: vec![0; n], left: 0, right: 0 }.bytes());
     }
     let sound = curves::table_3().bytes();
     for length in [0, 1, 9, 10, 25, sound.len() - 1] {

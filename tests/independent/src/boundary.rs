@@ -16,7 +16,7 @@ pub struct Mean {
     pub faults: u32,
 }
 
-/// What the two fits answer.
+/// What the three fits answer.
 #[repr(C)]
 #[derive(Clone, Copy, Debug, Default, PartialEq, Eq)]
 pub struct Fitted {
@@ -24,7 +24,7 @@ pub struct Fitted {
     pub place: u32,
 }
 
-/// What kaihveto_write answers.
+/// What the two writers answer.
 #[repr(C)]
 #[derive(Clone, Copy, Debug, Default, PartialEq, Eq)]
 pub struct Written {
@@ -42,6 +42,7 @@ pub struct Checked {
     pub knots: u32,
     pub left: u32,
     pub right: u32,
+    pub kind: u32,
 }
 
 /// What kaihveto_reading answers.
@@ -164,6 +165,16 @@ mod linked {
             right_slope: f64,
             right_curvature: f64,
         ) -> Fitted;
+        pub fn kaihveto_fit_slopes(
+            minutes: *const u16,
+            minutes_length: usize,
+            ordinates: *const i16,
+            ordinates_length: usize,
+            slopes: *const i32,
+            slopes_length: usize,
+            curvatures: *mut i32,
+            curvatures_length: usize,
+        ) -> Fitted;
         pub fn kaihveto_write(
             minutes: *const u16,
             minutes_length: usize,
@@ -175,6 +186,18 @@ mod linked {
             curvatures_length: usize,
             left: u16,
             right: u16,
+            buffer: *mut u8,
+            buffer_length: usize,
+        ) -> Written;
+        pub fn kaihveto_write_slopes(
+            minutes: *const u16,
+            minutes_length: usize,
+            ordinates: *const i16,
+            ordinates_length: usize,
+            slopes: *const i32,
+            slopes_length: usize,
+            curvatures: *const i32,
+            curvatures_length: usize,
             buffer: *mut u8,
             buffer_length: usize,
         ) -> Written;
@@ -293,6 +316,19 @@ pub fn fit_ends(minutes: &[u16], ordinates: &[i16], slopes: &mut [i32], curvatur
     ))
 }
 
+pub fn fit_slopes(minutes: &[u16], ordinates: &[i16], slopes: &[i32], curvatures: &mut [i32]) -> Fitted {
+    call!(kaihveto_fit_slopes(
+        minutes.as_ptr(),
+        minutes.len(),
+        ordinates.as_ptr(),
+        ordinates.len(),
+        slopes.as_ptr(),
+        slopes.len(),
+        curvatures.as_mut_ptr(),
+        curvatures.len(),
+    ))
+}
+
 pub fn write(minutes: &[u16], ordinates: &[i16], slopes: &[i32], curvatures: &[i32], left: u16, right: u16, buffer: &mut [u8]) -> Written {
     call!(kaihveto_write(
         minutes.as_ptr(),
@@ -305,6 +341,21 @@ pub fn write(minutes: &[u16], ordinates: &[i16], slopes: &[i32], curvatures: &[i
         curvatures.len(),
         left,
         right,
+        buffer.as_mut_ptr(),
+        buffer.len(),
+    ))
+}
+
+pub fn write_slopes(minutes: &[u16], ordinates: &[i16], slopes: &[i32], curvatures: &[i32], buffer: &mut [u8]) -> Written {
+    call!(kaihveto_write_slopes(
+        minutes.as_ptr(),
+        minutes.len(),
+        ordinates.as_ptr(),
+        ordinates.len(),
+        slopes.as_ptr(),
+        slopes.len(),
+        curvatures.as_ptr(),
+        curvatures.len(),
         buffer.as_mut_ptr(),
         buffer.len(),
     ))

@@ -7,6 +7,7 @@ use crate::random::Random;
 use crate::reference::{self, End, Refusal};
 use std::collections::BTreeMap;
 use std::fmt::Write as _;
+use std::hint::black_box;
 
 /// How many differences are printed; the rest are counted.
 const SHOWN: u64 = 20;
@@ -159,6 +160,30 @@ pub fn fit_ends(tally: &mut Tally, minutes: &[u16], ordinates: &[i16], lengths: 
     tally.count("fit_ends", number(&wanted), ours, fitted(&wanted), alike, input);
 }
 
+/// The fit of curvatures to given slopes, into a list of this length. The slopes are lent to be read, and
+/// must stand as they were.
+pub fn fit_slopes(tally: &mut Tally, minutes: &[u16], ordinates: &[i16], slopes: &[i32], length: usize) {
+    if !tally.takes_the_next() {
+        return;
+    }
+    let mut curvatures = i32_pattern(length);
+    let mut wanted_curvatures = curvatures.clone();
+    let mut given = within_a_pattern(i32_pattern(slopes.len()), slopes);
+    let held = given.clone();
+    let ours = boundary::fit_slopes(minutes, ordinates, lent(black_box(&mut given)), lent(&mut curvatures));
+    let wanted = reference::fit_slopes(minutes, ordinates, slopes, lent(&mut wanted_curvatures));
+    let alike = curvatures == wanted_curvatures && *black_box(&given) == held;
+    let input = || format!("{minutes:?} {ordinates:?} {slopes:?} into {length}");
+    tally.count("fit_slopes", number(&wanted), ours, fitted(&wanted), alike, input);
+}
+
+fn written(answer: &Result<u32, Refusal>) -> boundary::Written {
+    match *answer {
+        Ok(bytes) => boundary::Written { bytes, ..Default::default() },
+        Err(Refusal { number, place }) => boundary::Written { number, place, ..Default::default() },
+    }
+}
+
 /// The writer, into a buffer of this length.
 pub fn write(tally: &mut Tally, minutes: &[u16], ordinates: &[i16], slopes: &[i32], curvatures: &[i32], codes: [u16; 2], length: usize) {
     if !tally.takes_the_next() {
@@ -169,20 +194,35 @@ pub fn write(tally: &mut Tally, minutes: &[u16], ordinates: &[i16], slopes: &[i3
     let mut wanted_buffer = buffer.clone();
     let ours = boundary::write(minutes, ordinates, slopes, curvatures, left, right, lent(&mut buffer));
     let wanted = reference::write(minutes, ordinates, slopes, curvatures, left, right, lent(&mut wanted_buffer));
-    let wanted_answer = match wanted {
-        Ok(bytes) => boundary::Written { bytes, ..Default::default() },
-        Err(Refusal { number, place }) => boundary::Written { number, place, ..Default::default() },
-    };
     let alike = buffer == wanted_buffer;
     let input = || format!("{minutes:?} {ordinates:?} {slopes:?} {curvatures:?} {codes:?} into {length}");
-    tally.count("write", number(&wanted), ours, wanted_answer, alike, input);
+    tally.count("write", number(&wanted), ours, written(&wanted), alike, input);
+}
+
+/// The writer of a card of given slopes, into a buffer of this length.
+pub fn write_slopes(tally: &mut Tally, minutes: &[u16], ordinates: &[i16], slopes: &[i32], curvatures: &[i32], length: usize) {
+    if !tally.takes_the_next() {
+        return;
+    }
+    let mut buffer = u8_pattern(length);
+    let mut wanted_buffer = buffer.clone();
+    let ours = boundary::write_slopes(minutes, ordinates, slopes, curvatures, lent(&mut buffer));
+    let wanted = reference::write_slopes(minutes, ordinates, slopes, curvatures, lent(&mut wanted_buffer));
+    let alike = buffer == wanted_buffer;
+    let input = || format!("{minutes:?} {ordinates:?} {slopes:?} {curvatures:?} into {length}");
+    tally.count("write_slopes", number(&wanted), ours, written(&wanted), alike, input);
 }
 
 fn checked(answer: &Result<reference::Card, Refusal>) -> boundary::Checked {
     match answer {
-        Ok(card) => {
-            boundary::Checked { knots: card.minutes.len() as u32, left: card.left.into(), right: card.right.into(), ..Default::default() }
-        }
+        Ok(card) => boundary::Checked {
+            number: 0,
+            place: 0,
+            knots: card.minutes.len() as u32,
+            left: card.left.into(),
+            right: card.right.into(),
+            kind: card.kind.head().into(),
+        },
         Err(Refusal { number, place }) => boundary::Checked { number: *number, place: *place, ..Default::default() },
     }
 }

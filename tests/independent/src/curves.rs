@@ -2,7 +2,7 @@
 //! cards that stand just within or just past the allowance.
 
 use crate::random::Random;
-use crate::reference::{self, card_bytes, End, Knot, CARD_NUMBER_LIMIT, FREE, HOLE, ORDINATE_LIMIT, WIDEST_GAP};
+use crate::reference::{self, headed_bytes, End, Kind, Knot, CARD_NUMBER_LIMIT, FREE, HOLE, ORDINATE_LIMIT, WIDEST_GAP};
 
 /// Minutes and ordinates.
 #[derive(Clone, Debug)]
@@ -14,6 +14,7 @@ pub struct Sheet {
 /// The numbers of a card before they are bytes, sound or not.
 #[derive(Clone, Debug)]
 pub struct Numbers {
+    pub kind: Kind,
     pub sheet: Sheet,
     pub slopes: Vec<i32>,
     pub curvatures: Vec<i32>,
@@ -23,7 +24,13 @@ pub struct Numbers {
 
 impl Numbers {
     pub fn bytes(&self) -> Vec<u8> {
-        card_bytes(&self.sheet.minutes, &self.sheet.ordinates, &self.slopes, &self.curvatures, self.left, self.right)
+        self.headed(self.kind.head())
+    }
+
+    /// The same under a head of another number.
+    pub fn headed(&self, head: u16) -> Vec<u8> {
+        let Sheet { minutes, ordinates } = &self.sheet;
+        headed_bytes(head, minutes, ordinates, &self.slopes, &self.curvatures, self.left, self.right)
     }
 
     pub fn accepted(&self) -> bool {
@@ -198,7 +205,7 @@ fn fitted_sheet(random: &mut Random, sheet: Sheet, left: u16, right: u16) -> Opt
     let n = sheet.minutes.len();
     let (mut slopes, mut curvatures) = (vec![0; n], vec![0; n]);
     let fit = reference::fit_ends(&sheet.minutes, &sheet.ordinates, &mut slopes, &mut curvatures, left, right);
-    fit.is_ok().then_some(Numbers { sheet, slopes, curvatures, left: left.code, right: right.code })
+    fit.is_ok().then_some(Numbers { kind: Kind::Quintic, sheet, slopes, curvatures, left: left.code, right: right.code })
 }
 
 /// A card fitted by the reference, of n knots and these end codes.
@@ -227,12 +234,13 @@ pub fn table_3() -> Numbers {
     let (mut slopes, mut curvatures) = (vec![0; 5], vec![0; 5]);
     let fit = reference::fit_ends(&sheet.minutes, &sheet.ordinates, &mut slopes, &mut curvatures, FREE, FREE);
     assert_eq!(fit, Ok(()));
-    Numbers { sheet, slopes, curvatures, left: 0, right: 0 }
+    Numbers { kind: Kind::Quintic, sheet, slopes, curvatures, left: 0, right: 0 }
 }
 
 /// Document 01's card of P7.
 pub fn p7() -> Numbers {
     Numbers {
+        kind: Kind::Quintic,
         sheet: Sheet { minutes: vec![0, 2, 4], ordinates: vec![0, 1, 2] },
         slopes: vec![2048; 3],
         curvatures: vec![0; 3],
@@ -258,7 +266,7 @@ pub fn extreme(random: &mut Random, n: usize) -> Numbers {
         1 => curvatures[random.below(n)] = past,
         _ => {}
     }
-    Numbers { sheet, slopes, curvatures, left: random.below(3) as u16, right: random.below(3) as u16 }
+    Numbers { kind: Kind::Quintic, sheet, slopes, curvatures, left: random.below(3) as u16, right: random.below(3) as u16 }
 }
 
 /// Three knots with large numbers that do not jump, on gaps of some widths.
@@ -289,7 +297,7 @@ pub fn large_on(random: &mut Random, gap: u16) -> Option<Numbers> {
     let sign = if turned { -1 } else { 1 };
     let start = random.pick(&[0, 65_535 - 2 * h, 1000]);
     let sheet = Sheet { minutes: vec![], ordinates: vec![] };
-    let mut numbers = Numbers { sheet, slopes: vec![], curvatures: vec![], left: 1, right: 1 };
+    let mut numbers = Numbers { kind: Kind::Quintic, sheet, slopes: vec![], curvatures: vec![], left: 1, right: 1 };
     numbers.knot(start as u16, (sign * next_y) as i16, (-sign * next_m) as i32, (sign * next_c) as i32);
     numbers.knot((start + h) as u16, y as i16, m as i32, c as i32);
     numbers.knot((start + 2 * h) as u16, next_y as i16, next_m as i32, next_c as i32);
@@ -331,7 +339,7 @@ pub fn carried(random: &mut Random, n: usize) -> Option<Numbers> {
     sheet.ordinates = knots.iter().map(|knot| knot.y as i16).collect();
     let slopes = knots.iter().map(|knot| knot.m as i32).collect();
     let curvatures = knots.iter().map(|knot| knot.c as i32).collect();
-    Some(Numbers { sheet, slopes, curvatures, left: 1, right: 1 })
+    Some(Numbers { kind: Kind::Quintic, sheet, slopes, curvatures, left: 1, right: 1 })
 }
 
 /// Two knots with these numbers, and the curve carried on from them to a third, where it keeps to its limits.
@@ -340,7 +348,7 @@ fn carried_from(left: Knot, right: Knot, x: i128, y: i128) -> Option<Numbers> {
     let third = Knot { x, y, m, c };
     let (ordinate, card) = (i128::from(ORDINATE_LIMIT), i128::from(CARD_NUMBER_LIMIT));
     let sheet = Sheet { minutes: vec![], ordinates: vec![] };
-    let mut numbers = Numbers { sheet, slopes: vec![], curvatures: vec![], left: 1, right: 1 };
+    let mut numbers = Numbers { kind: Kind::Quintic, sheet, slopes: vec![], curvatures: vec![], left: 1, right: 1 };
     for knot in [left, right, third] {
         if knot.y.abs() > ordinate || knot.m.abs() > card || knot.c.abs() > card {
             return None;
@@ -396,7 +404,7 @@ pub fn mirrored(random: &mut Random, n: usize) -> Option<Numbers> {
     }
     let (mut slopes, mut curvatures) = (vec![0; n], vec![0; n]);
     reference::fit_ends(&minutes, &ordinates, &mut slopes, &mut curvatures, FREE, FREE).ok()?;
-    Some(Numbers { sheet: Sheet { minutes, ordinates }, slopes, curvatures, left: 0, right: 0 })
+    Some(Numbers { kind: Kind::Quintic, sheet: Sheet { minutes, ordinates }, slopes, curvatures, left: 0, right: 0 })
 }
 
 /// Three knots at even minutes on a parabola, which has a whole number or a half at every minute.
@@ -405,7 +413,7 @@ pub fn parabola(random: &mut Random) -> Numbers {
     let mut x = 0;
     let sheet = Sheet { minutes: vec![], ordinates: vec![] };
     let (left, right) = (random.below(3) as u16, random.below(3) as u16);
-    let mut numbers = Numbers { sheet, slopes: vec![], curvatures: vec![], left, right };
+    let mut numbers = Numbers { kind: Kind::Quintic, sheet, slopes: vec![], curvatures: vec![], left, right };
     for _ in 0..3 {
         numbers.knot(x as u16, (start + tilt * x + bend * x * x / 2) as i16, (4096 * (tilt + bend * x)) as i32, (4096 * bend) as i32);
         x += random.pick(&[2, 4, 6]);

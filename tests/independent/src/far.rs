@@ -148,6 +148,24 @@ pub unsafe fn kaihveto_fit_ends(
 }
 
 #[allow(clippy::too_many_arguments)]
+pub unsafe fn kaihveto_fit_slopes(
+    minutes: *const u16,
+    minutes_length: usize,
+    ordinates: *const i16,
+    ordinates_length: usize,
+    slopes: *const i32,
+    slopes_length: usize,
+    curvatures: *mut i32,
+    curvatures_length: usize,
+) -> Fitted {
+    let knots = Call::new(b'g').list(minutes, minutes_length).list(ordinates, ordinates_length);
+    let mut far = knots.list(slopes, slopes_length).list(curvatures, curvatures_length).made();
+    let answer = far.answer();
+    far.list(curvatures, curvatures_length);
+    answer
+}
+
+#[allow(clippy::too_many_arguments)]
 pub unsafe fn kaihveto_write(
     minutes: *const u16,
     minutes_length: usize,
@@ -165,6 +183,27 @@ pub unsafe fn kaihveto_write(
     let knots = Call::new(b'w').list(minutes, minutes_length).list(ordinates, ordinates_length);
     let lists = knots.list(slopes, slopes_length).list(curvatures, curvatures_length);
     let mut far = lists.number(left.into()).number(right.into()).list(buffer, buffer_length).made();
+    let answer = far.answer();
+    far.list(buffer, buffer_length);
+    answer
+}
+
+#[allow(clippy::too_many_arguments)]
+pub unsafe fn kaihveto_write_slopes(
+    minutes: *const u16,
+    minutes_length: usize,
+    ordinates: *const i16,
+    ordinates_length: usize,
+    slopes: *const i32,
+    slopes_length: usize,
+    curvatures: *const i32,
+    curvatures_length: usize,
+    buffer: *mut u8,
+    buffer_length: usize,
+) -> Written {
+    let knots = Call::new(b'v').list(minutes, minutes_length).list(ordinates, ordinates_length);
+    let lists = knots.list(slopes, slopes_length).list(curvatures, curvatures_length);
+    let mut far = lists.list(buffer, buffer_length).made();
     let answer = far.answer();
     far.list(buffer, buffer_length);
     answer

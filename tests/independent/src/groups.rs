@@ -4,7 +4,9 @@ use crate::books;
 use crate::compare::{self, Tally};
 use crate::curves::{self, Numbers, Sheet, Turn};
 use crate::random::Random;
-use crate::reference::{self, card_size, End, Swing, CARD_NUMBER_LIMIT, FREE, HOLE, LONGEST_LOG, MOST_KNOTS, ORDINATE_LIMIT, WIDEST_GAP};
+use crate::reference::{
+    self, card_size, End, Kind, Swing, CARD_NUMBER_LIMIT, FREE, HOLE, LONGEST_LOG, MOST_KNOTS, ORDINATE_LIMIT, WIDEST_GAP,
+};
 use std::collections::BTreeMap;
 use std::time::Instant;
 
@@ -122,7 +124,7 @@ fn at_rest(tally: &mut Tally, random: &mut Random) {
             for codes in [[1, 0], [0, 0], [2, 0], [0, 1]] {
                 compare::write(tally, &sheet.minutes, &sheet.ordinates, &slopes, &curvatures, codes, card_size(n));
             }
-            let numbers = Numbers { sheet, slopes, curvatures, left: 1, right: 0 };
+            let numbers = Numbers { kind: Kind::Quintic, sheet, slopes, curvatures, left: 1, right: 0 };
             let anew = reference::refit(&numbers.bytes(), &mut vec![0; n], &mut vec![0; n]);
             assert_eq!(anew, Ok(reference::Refitted { knots: n as u32, changed: 0 }), "{numbers:?}");
             card(tally, random, &numbers.bytes());
@@ -322,7 +324,7 @@ fn readings(tally: &mut Tally, random: &mut Random) {
             let minutes = vec![5, 5 + gap, 5 + gap + other];
             let ordinates = minutes.iter().map(|&x| 3 * x as i16 - 7).collect();
             let sheet = Sheet { minutes, ordinates };
-            let numbers = Numbers { sheet, slopes: vec![3 * 4096; 3], curvatures: vec![0; 3], left: 0, right: 0 };
+            let numbers = Numbers { kind: Kind::Quintic, sheet, slopes: vec![3 * 4096; 3], curvatures: vec![0; 3], left: 0, right: 0 };
             whole_card(tally, random, &numbers);
             for place in 0..3 {
                 for (slope, step) in [(true, 1), (true, -1), (false, 1), (false, -1)] {
@@ -666,7 +668,7 @@ fn cut_at_the_limit(random: &mut Random) -> Option<Numbers> {
     }
     let cut = |number: &[i128; 2], of: usize| number[of].clamp(-limit, limit) as i32;
     let (slopes, curvatures) = numbers.iter().map(|number| (cut(number, 0), cut(number, 1))).unzip();
-    Some(Numbers { sheet: Sheet { minutes, ordinates }, slopes, curvatures, left: 0, right: 0 })
+    Some(Numbers { kind: Kind::Quintic, sheet: Sheet { minutes, ordinates }, slopes, curvatures, left: 0, right: 0 })
 }
 
 /// Cards that are accepted, and whose fresh fit is refused with 9.
@@ -780,7 +782,7 @@ fn mends(tally: &mut Tally, random: &mut Random) {
                 let Sheet { minutes, ordinates } = &sheet;
                 compare::fit(tally, minutes, ordinates, [n, n]);
                 compare::write(tally, minutes, ordinates, &vec![0; n], &vec![0; n], [0, 0], card_size(n));
-                let numbers = Numbers { sheet, slopes: vec![0; n], curvatures: vec![0; n], left: 0, right: 0 };
+                let numbers = Numbers { kind: Kind::Quintic, sheet, slopes: vec![0; n], curvatures: vec![0; n], left: 0, right: 0 };
                 compare::check(tally, &numbers.bytes());
             }
         }
