@@ -371,6 +371,32 @@ fn histories(tally: &mut Tally, random: &mut Random) {
     }
 }
 
+/// Histories with cards of document 01 and of given slopes side by side, and refused ones of both.
+pub fn books_of_both_kinds(tally: &mut Tally, random: &mut Random) {
+    let mut refused = refused_cards(random);
+    for of_one in refused.clone().iter_mut().filter(|card| card.len() > 4) {
+        of_one[2] = Kind::Sloped.head() as u8;
+        refused.push(of_one.clone());
+    }
+    let table_3 = curves::table_3_sloped();
+    for [left, right] in [[1, 0], [0, 1], [2, 0], [0, 2]] {
+        refused.push(Numbers { left, right, ..table_3.clone() }.bytes());
+    }
+    refused.push(table_3.headed(7));
+    let pools = [(3, 5), (3, 64)].map(|(least, most)| {
+        let mut cards = sound_cards(random, least, most);
+        for _ in 0..12 {
+            let n = random.within(least, most) as usize;
+            cards.push(curves::fitted_to_slopes(random, n).bytes());
+        }
+        cards
+    });
+    for turn in 0..120 {
+        let length = random.within(60, [300, 5_000, 20_000][turn % 3]) as usize;
+        history(tally, random, &pools[turn % 2], &refused, length);
+    }
+}
+
 /// Books whose bytes are cut, changed, or put together of other records.
 pub fn bytes_of_books(tally: &mut Tally, random: &mut Random) {
     small_books(tally, random);

@@ -488,3 +488,127 @@ pub fn about_a_half(sheet: &Sheet, ends: [End; 2], turn: Turn) -> Option<f64> {
         }
     }
 }
+
+/// A slope for each knot of a sheet, in card units and within the limit: those of a smooth curve through it, near these, the
+/// chords' between a knot's neighbours, none, any at all, or at the limit.
+pub fn slopes(random: &mut Random, sheet: &Sheet) -> Vec<i32> {
+    let n = sheet.minutes.len();
+    if n < 2 {
+        return vec![0; n];
+    }
+    let limit = i128::from(CARD_NUMBER_LIMIT);
+    let smooth: Vec<i128> = match reference::eliminate(&sheet.minutes, &sheet.ordinates, FREE, FREE) {
+        Ok(pairs) => pairs.iter().map(|pair| reference::card_units(pair[0])).collect(),
+        Err(_) => vec![0; n],
+    };
+    let chord = |i: usize| {
+        let (before, next) = (i.saturating_sub(1), (i + 1).min(n - 1));
+        let rise = i128::from(sheet.ordinates[next]) - i128::from(sheet.ordinates[before]);
+        4096 * rise / i128::from(sheet.minutes[next] - sheet.minutes[before])
+    };
+    let shape = random.below(10);
+    let (near, share) = (random.pick(&[1, 3, 50, 4_000]), random.pick(&[1, 16, 256]));
+    let one = |i: usize, random: &mut Random| match shape {
+        0 => chord(i) + i128::from(random.within(-near, near)),
+        1 => 0,
+        2 => random.within(-1_048_576 / share, 1_048_576 / share).into(),
+        3 => random.pick(&[limit, -limit, limit - 1, 0]),
+        4 | 5 => smooth[i],
+        _ => smooth[i] + i128::from(random.within(-near, near)),
+    };
+    (0..n).map(|i| one(i, random).clamp(-limit, limit) as i32).collect()
+}
+
+/// Makes one slope one at the limit, one past it, or any at all.
+pub fn spoil_a_slope(random: &mut Random, slopes: &mut [i32]) {
+    let limit = CARD_NUMBER_LIMIT;
+    if !slopes.is_empty() {
+        slopes[random.below(slopes.len())] =
+            random.pick(&[limit, -limit, limit + 1, -limit - 1, limit + 1, -limit - 1, i32::MAX, i32::MIN]);
+    }
+}
+
+/// A card of the second kind whose curvatures the reference has fitted to these slopes, where it is not refused.
+pub fn sloped(sheet: Sheet, slopes: Vec<i32>) -> Option<Numbers> {
+    let mut curvatures = vec![0; slopes.len()];
+    let fit = reference::fit_slopes(&sheet.minutes, &sheet.ordinates, &slopes, &mut curvatures);
+    fit.is_ok().then_some(Numbers { kind: Kind::Sloped, sheet, slopes, curvatures, left: 0, right: 0 })
+}
+
+/// The same of n knots, on a sheet with slopes of any shape.
+pub fn fitted_to_slopes(random: &mut Random, n: usize) -> Numbers {
+    loop {
+        let sheet = sheet(random, n);
+        let slopes = slopes(random, &sheet);
+        if let Some(numbers) = sloped(sheet, slopes) {
+            return numbers;
+        }
+    }
+}
+
+/// The same at these minutes.
+pub fn fitted_to_slopes_at(random: &mut Random, minutes: &[u16]) -> Numbers {
+    loop {
+        let sheet = Sheet { minutes: minutes.to_vec(), ordinates: ordinates(random, minutes) };
+        let slopes = slopes(random, &sheet);
+        if let Some(numbers) = sloped(sheet, slopes) {
+            return numbers;
+        }
+    }
+}
+
+/// Document 01's card of Table 3 with the head of the second kind: its slopes taken as given, its curvatures are theirs.
+pub fn table_3_sloped() -> Numbers {
+    Numbers { kind: Kind::Sloped, ..table_3() }
+}
+
+/// The curvatures in card units, rounded or not, that the elimination gives a small sheet with these slopes.
+fn eliminated(sheet: &Sheet, slopes: &[i32]) -> Option<Vec<f64>> {
+    let plain = reference::eliminate_slopes(&sheet.minutes, &sheet.ordinates, slopes).ok()?;
+    Some(plain.into_iter().map(|u| 4096.0 * u).collect())
+}
+
+/// A sheet of few knots on narrow gaps with a small slope for each.
+fn small_with_slopes(random: &mut Random, widest: i64) -> (Sheet, Vec<i32>) {
+    let n = random.within(3, 6) as usize;
+    let mut minutes = vec![random.within(0, 900) as u16];
+    for i in 1..n {
+        minutes.push(minutes[i - 1] + random.within(1, widest) as u16);
+    }
+    let ordinates = (0..n).map(|_| random.within(-60, 60) as i16).collect();
+    let slopes = (0..n).map(|_| random.within(-100_000, 100_000) as i32).collect();
+    (Sheet { minutes, ordinates }, slopes)
+}
+
+/// Such a sheet of which one curvature is at a half as far as binary64 goes, so that a single operation rounded in another way
+/// shows in the card; or none of this draw.
+pub fn slopes_at_a_half(random: &mut Random) -> Option<(Sheet, Vec<i32>)> {
+    let (sheet, slopes) = small_with_slopes(random, 7);
+    let at_a_half = |u: &f64| ((u - u.floor()) - 0.5).abs() < 1e-8;
+    eliminated(&sheet, &slopes)?.iter().any(at_a_half).then_some((sheet, slopes))
+}
+
+/// Such a sheet, scaled and one of its slopes then stepped until the largest of its curvatures passes the limit: the slopes just
+/// before and just behind.
+pub fn slopes_about_the_limit(random: &mut Random) -> Option<(Sheet, [Vec<i32>; 2])> {
+    let (mut sheet, mut slopes) = small_with_slopes(random, 12);
+    let limit = f64::from(CARD_NUMBER_LIMIT);
+    let largest = |sheet: &Sheet, slopes: &[i32]| {
+        Some(eliminated(sheet, slopes)?.iter().fold(0.0, |most: f64, u| most.max(u.abs().round_ties_even())))
+    };
+    let share = limit / largest(&sheet, &slopes)?;
+    sheet.ordinates.iter_mut().for_each(|y| *y = (f64::from(*y) * share) as i16);
+    slopes.iter_mut().for_each(|m| *m = (f64::from(*m) * share) as i32);
+    let (place, step) = (random.below(slopes.len()), random.pick(&[1, -1, 2, -3]));
+    let mut within = largest(&sheet, &slopes)? <= limit;
+    for _ in 0..2_000 {
+        let before = slopes.clone();
+        slopes[place] += step;
+        let now = largest(&sheet, &slopes)? <= limit;
+        if now != within {
+            return Some((sheet, [before, slopes]));
+        }
+        within = now;
+    }
+    None
+}

@@ -7,10 +7,14 @@ use crate::random::Random;
 use crate::reference::{
     self, card_size, End, Kind, Swing, CARD_NUMBER_LIMIT, FREE, HOLE, LONGEST_LOG, MOST_KNOTS, ORDINATE_LIMIT, WIDEST_GAP,
 };
+use crate::slopes;
 use std::collections::BTreeMap;
 use std::time::Instant;
 
 const CODES: [u16; 3] = [0, 1, 2];
+
+/// The gaps of the weight sheet, and those about them.
+const ABOUT_THE_WEIGHT_SHEET: [u16; 8] = [14, 15, 16, 29, 30, 31, 59, 60];
 
 /// The nine mixes of ends.
 fn mixes() -> Vec<[u16; 2]> {
@@ -203,7 +207,7 @@ fn lengths(tally: &mut Tally, random: &mut Random) {
 
 /// One spoilt or sound card, by all that reads cards; by the swing, which reads every minute, where it has
 /// few knots.
-fn card(tally: &mut Tally, random: &mut Random, bytes: &[u8]) {
+pub(crate) fn card(tally: &mut Tally, random: &mut Random, bytes: &[u8]) {
     if bytes.len() < card_size(12) {
         compare::swing(tally, bytes);
     }
@@ -216,7 +220,7 @@ fn card(tally: &mut Tally, random: &mut Random, bytes: &[u8]) {
 }
 
 /// Every change of one byte: all 255 other values, or some of them.
-fn changed_bytes(tally: &mut Tally, random: &mut Random, bytes: &[u8], all: bool) {
+pub(crate) fn changed_bytes(tally: &mut Tally, random: &mut Random, bytes: &[u8], all: bool) {
     let mut changed = bytes.to_vec();
     for at in 0..bytes.len() {
         for other in 1..=255u8 {
@@ -234,7 +238,7 @@ fn changed_bytes(tally: &mut Tally, random: &mut Random, bytes: &[u8], all: bool
 }
 
 /// Every truncation, and extensions by zeros, by ones, by the card itself and by its closing record.
-fn cut_and_extended(tally: &mut Tally, random: &mut Random, bytes: &[u8]) {
+pub(crate) fn cut_and_extended(tally: &mut Tally, random: &mut Random, bytes: &[u8]) {
     for length in 0..bytes.len() {
         card(tally, random, &bytes[..length]);
     }
@@ -246,7 +250,7 @@ fn cut_and_extended(tally: &mut Tally, random: &mut Random, bytes: &[u8]) {
 }
 
 /// Heads that lie about what follows, and several changes at once.
-fn changed_records(tally: &mut Tally, random: &mut Random, bytes: &[u8]) {
+pub(crate) fn changed_records(tally: &mut Tally, random: &mut Random, bytes: &[u8]) {
     for n in 0..=MOST_KNOTS as u16 + 2 {
         let mut changed = bytes.to_vec();
         changed[4..6].copy_from_slice(&n.to_le_bytes());
@@ -293,7 +297,7 @@ fn card_bytes(tally: &mut Tally, random: &mut Random) {
 }
 
 /// One card by reader, writer and readings.
-fn whole_card(tally: &mut Tally, random: &mut Random, numbers: &Numbers) {
+pub(crate) fn whole_card(tally: &mut Tally, random: &mut Random, numbers: &Numbers) {
     let n = numbers.slopes.len();
     let bytes = numbers.bytes();
     compare::check(tally, &bytes);
@@ -302,8 +306,12 @@ fn whole_card(tally: &mut Tally, random: &mut Random, numbers: &Numbers) {
     }
     let size = card_size(n);
     let Sheet { minutes, ordinates } = &numbers.sheet;
+    let Numbers { slopes, curvatures, left, right, .. } = numbers;
     for length in [0, 1, size - 1, size, size + 1, size + random.below(200)] {
-        compare::write(tally, minutes, ordinates, &numbers.slopes, &numbers.curvatures, [numbers.left, numbers.right], length);
+        match numbers.kind {
+            Kind::Quintic => compare::write(tally, minutes, ordinates, slopes, curvatures, [*left, *right], length),
+            Kind::Sloped => compare::write_slopes(tally, minutes, ordinates, slopes, curvatures, length),
+        }
     }
 }
 
@@ -345,12 +353,17 @@ fn looks(tally: &mut Tally, random: &mut Random) {
     }
 }
 
+/// Minutes with every two of the weight sheet's gaps and of those about them side by side.
+pub(crate) fn about_the_weight_sheet(random: &mut Random) -> Vec<Vec<u16>> {
+    let pairs = ABOUT_THE_WEIGHT_SHEET.iter().flat_map(|&gap| ABOUT_THE_WEIGHT_SHEET.map(|other| [gap, other, gap]));
+    pairs.map(|gaps| minutes_after(random.within(0, 60_000) as u16, &gaps)).collect()
+}
+
 /// Readings at every minute of the weight sheet's gaps and of those about them: off fitted cards with every two of them side by
 /// side, and off cards with large numbers.
 fn on_the_weight_sheet(tally: &mut Tally, random: &mut Random) {
-    let about = [14, 15, 16, 29, 30, 31, 59, 60];
-    for gap in about {
-        for other in about {
+    for gap in ABOUT_THE_WEIGHT_SHEET {
+        for other in ABOUT_THE_WEIGHT_SHEET {
             for _ in 0..3 {
                 let minutes = minutes_after(random.within(0, 60_000) as u16, &[gap, other, gap]);
                 let [left, right] = random.pick(&mixes());
@@ -442,7 +455,7 @@ fn writers(tally: &mut Tally, random: &mut Random) {
 }
 
 /// One card's table: from either end, from within and from outside, into lists that are too short, just right and too long.
-fn whole_table(tally: &mut Tally, random: &mut Random, numbers: &Numbers) {
+pub(crate) fn whole_table(tally: &mut Tally, random: &mut Random, numbers: &Numbers) {
     let bytes = numbers.bytes();
     let minutes = &numbers.sheet.minutes;
     let (first, last) = (minutes[0], minutes[minutes.len() - 1]);
@@ -460,7 +473,7 @@ fn whole_table(tally: &mut Tally, random: &mut Random, numbers: &Numbers) {
 }
 
 /// The same card with its last knot at the last of all minutes.
-fn at_the_last_minute(numbers: &Numbers) -> Numbers {
+pub(crate) fn at_the_last_minute(numbers: &Numbers) -> Numbers {
     let mut moved = numbers.clone();
     let minutes = &mut moved.sheet.minutes;
     let behind = u16::MAX - minutes[minutes.len() - 1];
@@ -588,7 +601,7 @@ fn swings(tally: &mut Tally, random: &mut Random) {
 }
 
 /// A card fitted anew, into lists of every useful length, equal and not.
-fn refit_into_all(tally: &mut Tally, bytes: &[u8], n: usize) {
+pub(crate) fn refit_into_all(tally: &mut Tally, bytes: &[u8], n: usize) {
     for places in [0, n - 1, n, n + 1, 66] {
         compare::refit(tally, bytes, [places; 2]);
         compare::refit(tally, bytes, [places, n + 2]);
@@ -793,11 +806,13 @@ fn mends(tally: &mut Tally, random: &mut Random) {
 
 /// The numbers that the comparisons of each function have to meet, so that inputs which no longer reach one of them are seen. 8 is
 /// missing, which no input is known to meet, and the fits' 10, which none of these does.
-const TO_BE_MET: [(&str, &[u32]); 13] = [
+const TO_BE_MET: [(&str, &[u32]); 15] = [
     ("mean", &[0, 16, 12, 13, 23, 19]),
     ("fit", &[0, 3, 1, 2, 4, 5, 6, 9]),
     ("fit_ends", &[0, 3, 1, 2, 15, 4, 5, 6, 7, 9]),
+    ("fit_slopes", &[0, 3, 1, 2, 4, 5, 6, 9]),
     ("write", &[0, 3, 1, 2, 15, 4, 5, 6, 9, 10, 26]),
+    ("write_slopes", &[0, 3, 1, 2, 4, 5, 6, 9, 10, 26]),
     ("check", &[0, 14, 1, 2, 15, 4, 5, 6, 9, 10]),
     ("read", &[0, 3, 14, 1, 2, 15, 4, 5, 6, 9, 10, 26]),
     ("reading", &[0, 14, 1, 2, 15, 4, 5, 6, 9, 10, 11]),
@@ -827,7 +842,7 @@ type Group = fn(&mut Tally, &mut Random);
 /// whether nothing differed and, of all questions, nothing was left unmet: a part may miss a number that few
 /// of them meet.
 pub fn run(part: Option<u64>) -> bool {
-    let groups: [(&str, Group); 20] = [
+    let groups: [(&str, Group); 27] = [
         ("logs", logs),
         ("fits", fits),
         ("given numbers", given),
@@ -848,6 +863,13 @@ pub fn run(part: Option<u64>) -> bool {
         ("cards that start at rest", at_rest),
         ("looks for a gap", looks),
         ("how far curves swing", swings),
+        ("fits to given slopes", slopes::fits),
+        ("fits to given slopes at a half", slopes::at_a_half),
+        ("cards of given slopes", slopes::cards),
+        ("readings off given slopes", slopes::readings),
+        ("given slopes near the allowance", slopes::near_the_allowance),
+        ("given slopes at the limit and fitted anew", slopes::fresh_fits_and_limits),
+        ("books of both kinds of card", books::books_of_both_kinds),
     ];
     let mut tally = Tally::new(part);
     for (seed, (name, group)) in groups.iter().enumerate() {

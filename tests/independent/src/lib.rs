@@ -19,4 +19,5 @@ pub mod random;
 pub mod reference;
 #[cfg(test)]
 mod sheet;
+pub mod slopes;
 pub mod vectors;
