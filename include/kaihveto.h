@@ -12,6 +12,12 @@
      KAIHVETO_BOTH_GIVEN       slope and curvature given
      KAIHVETO_CURVATURE_GIVEN  curvature given, fourth derivative zero
 
+   There are two kinds of card. Of KAIHVETO_FITTED the fit finds slopes and curvatures, so that the third and
+   the fourth derivative go on without a jump through every knot. Of KAIHVETO_SLOPES_GIVEN the slopes were
+   measured, one at every knot, and the fit finds the curvatures alone: the third derivative goes on without a
+   jump and is zero at both ends, the fourth may jump. Both codes of such a card are 0. Whatever takes a card
+   takes either kind: the card's own bytes tell which it is.
+
    A book holds the cards of a hall's rooms, each behind the number of its room (0 to 65,535).
 
    Lists. A list is passed as a pointer and then its length, counted in elements. A list that a function may write to must
@@ -33,10 +39,11 @@
    which bytes are moved, and interrupts that come in on the stack of the code that they interrupt have to leave the 128 bytes below
    its stack pointer alone, as the convention says: these functions use them.
 
-   Floating point. kaihveto_fit, kaihveto_fit_ends, kaihveto_refit and kaihveto_mend compute in binary64, each operation rounded once.
+   Floating point. kaihveto_fit, kaihveto_fit_ends, kaihveto_fit_slopes, kaihveto_refit and kaihveto_mend
+   compute in binary64, each operation rounded once.
    Their answers hold in the mode in which a process starts: rounding to nearest, subnormal numbers kept, exceptions masked. The
    start-up code of a small board, and a program that is linked with -ffast-math, may set another: it is to be set back for the call.
-   (On x86-64 the mode is in MXCSR, on Arm in FPSCR or FPCR; the four may set its flags.) A compiler must not fuse a product and a sum
+   (On x86-64 the mode is in MXCSR, on Arm in FPSCR or FPCR; the five may set its flags.) A compiler must not fuse a product and a sum
    into one operation: kaihveto.c forbids that to GCC and clang by itself, and refuses -ffast-math; but clang does fuse with
    -ffp-contract=fast on its command line, which is therefore not to be given, and -ffp-contract=off is never wrong. The other
    functions have no floating-point operation and answer alike in every mode.
@@ -48,10 +55,11 @@
 
                            kaihveto.c   archive              kaihveto.c   archive
      kaihveto_mean                256       128   read, swing     5,120     4,096
-     kaihveto_write             1,024       512   reading         5,120     4,096
+     write, write_slopes        1,024       512   reading         5,120     4,096
      kaihveto_check             4,096     3,072   table           6,144     4,096
      kaihveto_book_find         4,096     3,072   fit, fit_ends  10,240     8,192
      kaihveto_book_put          4,096     3,072   refit, mend    13,312    10,240
+     kaihveto_fit_slopes            ?         ?
 
    Time. A reading tests the whole card every time and only then looks up the minute: some 1 to 2 microseconds at 64 knots
    (docs/FIGURES.md, "Speed"). A controller that reads once a minute needs to keep nothing but the card's bytes. A table tests
@@ -75,6 +83,15 @@ extern "C" {
    version, 65536 times MAJOR plus MINOR: where it is not KAIHVETO_VERSION, the library and this header are of two states of the
    sources, and no other function is to be called.
 
+   6.0: there is a second kind of card, of which the slopes are given, and kaihveto_fit_slopes and
+   kaihveto_write_slopes are added for it. The answer of kaihveto_check and of kaihveto_read has the kind,
+   behind the right end's code, and is 4 bytes longer for it: a program that calls one of them is to be
+   compiled anew, since one that was compiled with a header before has too little room for the answer. Bytes
+   whose first record is of kind 6, which were refused with 14 at 0, may be such a card, and every function
+   that takes a card takes them; kaihveto_refit gives back the slopes of such a card and fits its curvatures
+   anew. A program that writes cards for one that still has a header before is to give it none of them.
+   Nothing else moved: cards of the other kind are fitted, written and read as they were.
+
    5.2: kaihveto_swing is added.
 
    5.1: kaihveto_version is added, and kaihveto.c, which is the library for every processor.
@@ -97,8 +114,8 @@ extern "C" {
 
    2.0: kaihveto_mean answers the minute in the log's middle, where 1.2 answered the log's first, and has the refusal 19. Cards
    that were made with the first minutes lead the rooms by half a log, and are to be made anew. */
-#define KAIHVETO_VERSION_MAJOR 5
-#define KAIHVETO_VERSION_MINOR 2
+#define KAIHVETO_VERSION_MAJOR 6
+#define KAIHVETO_VERSION_MINOR 0
 #define KAIHVETO_VERSION (65536u * KAIHVETO_VERSION_MAJOR + KAIHVETO_VERSION_MINOR)
 
 uint32_t kaihveto_version(void);
@@ -107,6 +124,10 @@ uint32_t kaihveto_version(void);
 #define KAIHVETO_FREE 0
 #define KAIHVETO_BOTH_GIVEN 1
 #define KAIHVETO_CURVATURE_GIVEN 2
+
+/* The kinds of card, which are the kinds of their first records: slopes fitted, or given. */
+#define KAIHVETO_FITTED 1
+#define KAIHVETO_SLOPES_GIVEN 6
 
 /* The end codes of the card that kaihveto_fit gives: slope and curvature given at the left, free at the right. */
 #define KAIHVETO_DEFAULT_LEFT 1
@@ -152,15 +173,16 @@ enum kaihveto_number {
     KAIHVETO_GAP_TOO_WIDE = 5,         /* gap over 60 minutes; place: its right knot */
     KAIHVETO_ORDINATE_BEYOND = 6,      /* ordinate beyond 20,000 either way; place: the knot */
     KAIHVETO_GIVEN_NUMBER_BEYOND = 7,  /* given end number NaN, infinite or beyond 256 either way; place: the end knot */
-    KAIHVETO_NO_SOLUTION = 8,          /* the elimination met a determinant of 0 or a number not finite; place: the knot */
+    KAIHVETO_NO_SOLUTION = 8,          /* the elimination met a divisor of 0 or a number not finite; place: the knot */
     KAIHVETO_CARD_NUMBER_BEYOND = 9,   /* slope or curvature beyond 1,048,576 either way; place: the knot */
-    KAIHVETO_JUMP = 10,                /* third or fourth derivative jumps by more than is allowed; place: the knot */
+    KAIHVETO_JUMP = 10,                /* third or fourth derivative jumps by more than is allowed, the fourth not where slopes
+                                          are given; place: the knot */
     KAIHVETO_MINUTE_OUTSIDE = 11,      /* minute outside the card */
     KAIHVETO_LOG_BYTE = 12,            /* log byte 201 to 254; place: the byte */
     KAIHVETO_NO_GOOD_BYTE = 13,        /* no good byte in the log */
     KAIHVETO_RECORD = 14,              /* record cut short, of wrong kind or length, or ending past a book's most bytes, or bytes
                                           behind a card's end; place: its offset */
-    KAIHVETO_END_CODE = 15,            /* end code not 0, 1, 2; place: 0 left, 1 right */
+    KAIHVETO_END_CODE = 15,            /* end code not 0, 1, 2, or not 0 where slopes are given; place: 0 left, 1 right */
     KAIHVETO_LOG_LENGTH = 16,          /* log length not 1 to 60 */
     KAIHVETO_NO_SOUND_KNOT = 17,       /* a hole with no sound knot on one side; place: the hole */
     KAIHVETO_TOO_FEW_CHANGES = 18,     /* fewer places in the list of changes than holes */
@@ -215,6 +237,17 @@ kaihveto_fit_answer kaihveto_fit_ends(const uint16_t *minutes, size_t minutes_le
                                       uint16_t left, double left_slope, double left_curvature,
                                       uint16_t right, double right_slope, double right_curvature);
 
+/* The fit to given slopes: the curvatures, in card units, of the curve through these knots with these slopes,
+   which are in card units too: the rate in hundredths per minute times 4096, rounded, from -1,048,576 to
+   1,048,576. All four lists have one length, the number of knots; on acceptance every place of curvatures is
+   written, and the slopes never are. The third derivative does not jump and is zero at both ends; the fourth
+   may jump. The card is written by kaihveto_write_slopes: kaihveto_write refuses it as a rule with 10.
+   Refusals, in this order: 3, 1, 2; 4, 5, 6 knot by knot; 9 of the slopes; 8; 9 of the curvatures; 10. */
+kaihveto_fit_answer kaihveto_fit_slopes(const uint16_t *minutes, size_t minutes_length,
+                                        const int16_t *ordinates, size_t ordinates_length,
+                                        const int32_t *slopes, size_t slopes_length,
+                                        int32_t *curvatures, size_t curvatures_length);
+
 /* Writes a card: on acceptance the first 14 + 16n bytes of the buffer, n being the lists' length, and no other. The answer
    has the number of bytes written.
    Refusals, in this order: 3, 1, 2, 15; 4, 5, 6 knot by knot; 9, 10, 26. */
@@ -231,7 +264,18 @@ kaihveto_write_answer kaihveto_write(const uint16_t *minutes, size_t minutes_len
                                      uint16_t left, uint16_t right,
                                      uint8_t *buffer, size_t buffer_length);
 
-/* Checks a card's bytes; nothing may follow the card. The answer has the number of knots and the two end codes.
+/* Writes a card whose slopes are given: its first record is of kind 6 in place of 1 and has both codes 0, and
+   all else is as kaihveto_write has it. Every curvature of a card that is accepted is at most 2 card units
+   from the exact solution for its slopes.
+   Refusals, in this order: 3, 1, 2; 4, 5, 6 knot by knot; 9, 10, 26. */
+kaihveto_write_answer kaihveto_write_slopes(const uint16_t *minutes, size_t minutes_length,
+                                            const int16_t *ordinates, size_t ordinates_length,
+                                            const int32_t *slopes, size_t slopes_length,
+                                            const int32_t *curvatures, size_t curvatures_length,
+                                            uint8_t *buffer, size_t buffer_length);
+
+/* Checks a card's bytes; nothing may follow the card. The answer has the number of knots, the two end codes,
+   and the kind, KAIHVETO_FITTED or KAIHVETO_SLOPES_GIVEN.
    Refusals, in this order: 14 of the head; 1, 2, 15; 14 of the other records; 4, 5, 6 knot by knot; 9, 10. Nothing is
    written. */
 typedef struct {
@@ -240,6 +284,7 @@ typedef struct {
     uint32_t knots;
     uint32_t left;
     uint32_t right;
+    uint32_t kind;
 } kaihveto_card_answer;
 
 kaihveto_card_answer kaihveto_check(const uint8_t *card, size_t card_length);
@@ -320,6 +365,10 @@ kaihveto_swing_answer kaihveto_swing(const uint8_t *card, size_t card_length);
    fitted with free ends, has none as long as it was not changed. A given number is taken as it stands on the card: where it was
    changed, only the others can show it; and where the fit was given one between two card units, some others may differ by a few
    units though nothing was changed.
+
+   Of a card whose slopes are given, the slopes come back as the card has them, and its curvatures are fitted
+   anew to them: of these alone some can differ. A card of kaihveto_fit_slopes has none that does, as long as
+   it was not changed.
    Refusals, in this order: 3, those of kaihveto_check, 26, and then the fit's own, 8, 9, 10. */
 typedef struct {
     uint32_t number;

@@ -141,12 +141,30 @@ int main(void) {
             drop(a), drop(b), drop(c), drop(d);
             break;
         }
+        case 'g': {
+            a = list(2), b = list(2), c = list(4), d = list(4);
+            kaihveto_fit_answer r =
+                kaihveto_fit_slopes(a.first, a.length, b.first, b.length, c.first, c.length, d.first, d.length);
+            give_answer(&r, sizeof r);
+            give_back(d);
+            drop(a), drop(b), drop(c), drop(d);
+            break;
+        }
         case 'w': {
             a = list(2), b = list(2), c = list(4), d = list(4);
             uint64_t left = number(), right = number();
             e = list(1);
             kaihveto_write_answer r = kaihveto_write(a.first, a.length, b.first, b.length, c.first, c.length, d.first, d.length,
                                                      (uint16_t)left, (uint16_t)right, e.first, e.length);
+            give_answer(&r, sizeof r);
+            give_back(e);
+            drop(a), drop(b), drop(c), drop(d), drop(e);
+            break;
+        }
+        case 'v': {
+            a = list(2), b = list(2), c = list(4), d = list(4), e = list(1);
+            kaihveto_write_answer r = kaihveto_write_slopes(a.first, a.length, b.first, b.length, c.first, c.length,
+                                                            d.first, d.length, e.first, e.length);
             give_answer(&r, sizeof r);
             give_back(e);
             drop(a), drop(b), drop(c), drop(d), drop(e);

@@ -1,8 +1,9 @@
 /* Sees that library and header belong together. Fits document 01's Table 3 through the C header, without ends
    and then between free ones, and writes its card each time, with the swing of both; checks the free one,
-   reads it back and takes readings off it; then a log's mean and a log with too few good bytes, a sheet with
-   two holes mended and put back, and a book of two rooms with a reading off the card that it holds for one of
-   them. What it prints is held against reads_a_card.expected. */
+   reads it back and takes readings off it; then fits document 000's Table 4 to its slopes and writes, checks,
+   reads and changes that card; then a log's mean and a log with too few good bytes, a sheet with two holes
+   mended and put back, and a book of three rooms with readings off the cards that it holds for two of them.
+   What it prints is held against reads_a_card.expected. */
 
 #include <stdio.h>
 
@@ -14,6 +15,12 @@ static void print_swing(const char *name, kaihveto_swing_answer swing)
 {
     printf("%s: %u at %u, knot %u, minute %u, below %u, above %u\n", name, swing.number, swing.place, swing.knot,
            swing.minute, swing.below, swing.above);
+}
+
+static void print_card(const char *name, kaihveto_card_answer card)
+{
+    printf("%s: %u at %u, %u knots, ends %u and %u, kind %u\n", name, card.number, card.place, card.knots, card.left,
+           card.right, card.kind);
 }
 
 int main(void)
@@ -43,8 +50,7 @@ int main(void)
                              KAIHVETO_DEFAULT_RIGHT, card, sizeof card);
     printf("write with the fit's own: %u at %u, %u bytes\n", written.number, written.place, written.bytes);
     kaihveto_card_answer checked = kaihveto_check(card, sizeof card);
-    printf("check: %u at %u, %u knots, ends %u and %u\n", checked.number, checked.place, checked.knots, checked.left,
-           checked.right);
+    print_card("check", checked);
     kaihveto_refit_answer anew = kaihveto_refit(card, sizeof card, slopes, KNOTS, curvatures, KNOTS);
     printf("fitted anew: %u at %u, %u changed\n", anew.number, anew.place, anew.changed);
     print_swing("swing", kaihveto_swing(card, sizeof card));
@@ -61,8 +67,7 @@ int main(void)
     printf("\n");
 
     checked = kaihveto_check(card, sizeof card);
-    printf("check: %u at %u, %u knots, ends %u and %u\n", checked.number, checked.place, checked.knots, checked.left,
-           checked.right);
+    print_card("check", checked);
 
     kaihveto_card_answer read = kaihveto_read(card, sizeof card, read_minutes, KAIHVETO_MOST_KNOTS, read_ordinates,
                                               KAIHVETO_MOST_KNOTS, read_slopes, KAIHVETO_MOST_KNOTS, read_curvatures,
@@ -81,8 +86,7 @@ int main(void)
     print_swing("swing", kaihveto_swing(card, sizeof card));
     print_swing("swing a byte short", kaihveto_swing(card, sizeof card - 1));
     checked = kaihveto_check(card, sizeof card - 1);
-    printf("a byte short: %u at %u, %u knots, ends %u and %u\n", checked.number, checked.place, checked.knots, checked.left,
-           checked.right);
+    print_card("a byte short", checked);
 
     fit = kaihveto_fit_ends(minutes, KNOTS, ordinates, KNOTS, slopes, KNOTS, curvatures, KNOTS, KAIHVETO_BOTH_GIVEN, 256.5,
                             0.0, KAIHVETO_CURVATURE_GIVEN, 0.0, 1.0);
@@ -91,6 +95,36 @@ int main(void)
                             0.25, KAIHVETO_CURVATURE_GIVEN, 0.0, 1.0);
     printf("left slope -1.5 and curvature 0.25, right curvature 1: %u at %u, left %d %d, right %d %d\n", fit.number, fit.place,
            slopes[0], curvatures[0], slopes[KNOTS - 1], curvatures[KNOTS - 1]);
+
+    const uint16_t measured_minutes[KNOTS] = {0, 2, 3, 6, 7};
+    const int16_t measured_ordinates[KNOTS] = {7, 11, 26, 56, 29};
+    int32_t measured_slopes[KNOTS] = {2 * 4096, 15 * 4096, 10 * 4096, -27 * 4096, -30 * 4096};
+    uint8_t measured[KAIHVETO_CARD_BYTES(KNOTS)];
+    fit = kaihveto_fit_slopes(measured_minutes, KNOTS, measured_ordinates, KNOTS, measured_slopes, KNOTS, curvatures, KNOTS);
+    printf("fit to slopes: %u at %u, curvatures %d %d %d %d %d\n", fit.number, fit.place, curvatures[0], curvatures[1],
+           curvatures[2], curvatures[3], curvatures[4]);
+    written = kaihveto_write_slopes(measured_minutes, KNOTS, measured_ordinates, KNOTS, measured_slopes, KNOTS, curvatures,
+                                    KNOTS, measured, sizeof measured);
+    printf("write: %u at %u, %u bytes:", written.number, written.place, written.bytes);
+    for (int i = 0; i < 10; i++)
+        printf(" %02X", measured[i]);
+    printf("\n");
+    print_card("check", kaihveto_check(measured, sizeof measured));
+    reading = kaihveto_reading(measured, sizeof measured, 1);
+    printf("minute 1: %u at %u, value %d, slope %d, curvature %d, looks %u\n", reading.number, reading.place, reading.value,
+           reading.slope, reading.curvature, reading.looks);
+    anew = kaihveto_refit(measured, sizeof measured, read_slopes, KAIHVETO_MOST_KNOTS, read_curvatures, KAIHVETO_MOST_KNOTS);
+    printf("fitted anew: %u at %u, %u changed, last %d %d\n", anew.number, anew.place, anew.changed, read_slopes[KNOTS - 1],
+           read_curvatures[KNOTS - 1]);
+    measured[6] = KAIHVETO_BOTH_GIVEN;
+    print_card("slopes given and a code", kaihveto_check(measured, sizeof measured));
+    measured[6] = KAIHVETO_FREE;
+    measured[2] = KAIHVETO_FITTED;
+    print_card("the same numbers as the other kind", kaihveto_check(measured, sizeof measured));
+    measured[2] = KAIHVETO_SLOPES_GIVEN;
+    measured_slopes[2] = KAIHVETO_CARD_NUMBER_LIMIT + 1;
+    fit = kaihveto_fit_slopes(measured_minutes, KNOTS, measured_ordinates, KNOTS, measured_slopes, KNOTS, curvatures, KNOTS);
+    printf("a slope beyond the limit: %u at %u\n", fit.number, fit.place);
 
     const uint8_t log[3] = {100, 255, 102};
     kaihveto_mean_answer mean = kaihveto_mean(60, log, sizeof log);
@@ -128,6 +162,11 @@ int main(void)
     reading = kaihveto_reading(book + found.start, found.length, 4);
     printf("room 9, minute 4: %u at %u, value %d, slope %d, curvature %d, looks %u\n", reading.number, reading.place,
            reading.value, reading.slope, reading.curvature, reading.looks);
+    put = kaihveto_book_put(book, sizeof book, 5, measured, sizeof measured);
+    printf("put in for room 5, slopes given: %u at %u, %u bytes\n", put.number, put.place, put.bytes);
+    found = kaihveto_book_find(book, sizeof book, 5);
+    printf("room 5: %u at %u, %u bytes from %u on\n", found.number, found.place, found.length, found.start);
+    print_card("room 5", kaihveto_check(book + found.start, found.length));
     found = kaihveto_book_find(book, sizeof book, 4);
     printf("room 4: %u at %u, %u bytes from %u on\n", found.number, found.place, found.length, found.start);
     put = kaihveto_book_put(book, put.bytes, 4, line, sizeof line);

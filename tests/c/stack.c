@@ -11,7 +11,7 @@ static int16_t ordinates[KNOTS];
 static int32_t slopes[KNOTS], curvatures[KNOTS];
 static int32_t table_values[MINUTES], table_slopes[MINUTES], table_curvatures[MINUTES];
 static kaihveto_change changes[KNOTS];
-static uint8_t card[KAIHVETO_CARD_BYTES(KNOTS)], short_card[KAIHVETO_CARD_BYTES(3)], log_bytes[60];
+static uint8_t card[KAIHVETO_CARD_BYTES(KNOTS)], sloped_card[KAIHVETO_CARD_BYTES(KNOTS)], short_card[KAIHVETO_CARD_BYTES(3)], log_bytes[60];
 static uint8_t book[KAIHVETO_BOOK_MOST_BYTES] = KAIHVETO_EMPTY_BOOK;
 
 static uint32_t mean(void) {
@@ -24,6 +24,18 @@ static uint32_t fit(void) {
 
 static uint32_t fit_ends(void) {
     return kaihveto_fit_ends(minutes, KNOTS, ordinates, KNOTS, slopes, KNOTS, curvatures, KNOTS, KAIHVETO_FREE, 0, 0, KAIHVETO_FREE, 0, 0).number;
+}
+
+static uint32_t fit_slopes(void) {
+    return kaihveto_fit_slopes(minutes, KNOTS, ordinates, KNOTS, slopes, KNOTS, curvatures, KNOTS).number;
+}
+
+static uint32_t write_slopes(void) {
+    return kaihveto_write_slopes(minutes, KNOTS, ordinates, KNOTS, slopes, KNOTS, curvatures, KNOTS, sloped_card, sizeof sloped_card).number;
+}
+
+static uint32_t refit_slopes(void) {
+    return kaihveto_refit(sloped_card, sizeof sloped_card, slopes, KNOTS, curvatures, KNOTS).number;
 }
 
 static uint32_t write_card(void) {
@@ -111,6 +123,9 @@ int main(void) {
     good &= line("table", table);
     good &= line("swing", swing);
     good &= line("refit", refit);
+    good &= line("fit_slopes", fit_slopes);
+    good &= line("write_slopes", write_slopes);
+    good &= line("refit, slopes", refit_slopes);
     good &= line("mend", mend);
     good &= kaihveto_fit(minutes, 3, ordinates, 3, slopes, 3, curvatures, 3).number == 0;
     good &= kaihveto_write(minutes, 3, ordinates, 3, slopes, 3, curvatures, 3, KAIHVETO_DEFAULT_LEFT, KAIHVETO_DEFAULT_RIGHT, short_card, sizeof short_card).number == 0;
