@@ -751,3 +751,204 @@ fn fourteen_full_cards_go_into_one_book() {
     }
     assert_eq!(put(&mut book, 15, &card), (21, 0, 0));
 }
+
+/// A card of given slopes on these minutes, without ordinates and slopes: which of its curvatures it is
+/// refused for.
+fn flat_with(minutes: &[u16; 3], curvatures: [i32; 3]) -> (u32, u32) {
+    number_and_place(check(&sloped_bytes(minutes, &[0; 3], &[0; 3], &curvatures)))
+}
+
+/// Four gs a side: the third is 3M - M' at the left end, 3M - M° at the right, and at an inner knot between
+/// gaps of 1 and 2, all times 2, M' - 9M + 2M°, of which 12 is allowed.
+#[test]
+fn a_card_of_given_slopes_may_jump_by_four_gs_a_side() {
+    assert_eq!(flat_with(&[0, 1, 2], [1, -1, 1]), (0, 0));
+    assert_eq!(flat_with(&[0, 60, 120], [-1, 1, -1]), (0, 0));
+    assert_eq!(flat_with(&[0, 1, 2], [2, 1, 1]), (10, 0));
+    assert_eq!(flat_with(&[0, 1, 2], [1, 1, 2]), (10, 2));
+    assert_eq!(flat_with(&[0, 1, 3], [-2, -2, -2]), (0, 0));
+    assert_eq!(flat_with(&[0, 1, 3], [-2, -2, -1]), (10, 1));
+    // What 16g2 + 4g would let through.
+    assert_eq!(flat_with(&[0, 1, 2], [0, -2, 0]), (10, 1));
+    assert_eq!(number_and_place(check(&card_bytes(&[0, 1, 2], &[0; 3], &[0; 3], &[0, -2, 0], 0, 0))), (0, 0));
+}
+
+/// Document 000's Table 4, three minutes later and its slopes in card units, with the curvatures that are
+/// printed there.
+const TABLE_4: ([u16; 5], [i16; 5], [i32; 5], [i32; 5]) = (
+    [0, 2, 3, 6, 7],
+    [7, 11, 26, 56, 29],
+    [2 * 4096, 15 * 4096, 10 * 4096, -27 * 4096, -30 * 4096],
+    [-50_040, 62_873, -15_637, -43_126, -63_527],
+);
+
+fn table_4_card() -> Vec<u8> {
+    sloped_bytes(&TABLE_4.0, &TABLE_4.1, &TABLE_4.2, &TABLE_4.3)
+}
+
+#[test]
+fn table_4_is_a_card_of_given_slopes_and_no_other() {
+    let mut curvatures = [7; 5];
+    assert_eq!(fit_slopes(&TABLE_4.0, &TABLE_4.1, &TABLE_4.2, &mut curvatures), Ok(()));
+    assert_eq!(curvatures, TABLE_4.3);
+    let mut buffer = [0; 95];
+    assert_eq!(write_slopes(&TABLE_4.0, &TABLE_4.1, &TABLE_4.2, &TABLE_4.3, &mut buffer), Ok(94));
+    assert_eq!((&buffer[..94], buffer[94]), (&table_4_card()[..], 0));
+    assert_eq!(buffer[..10], [6, 0, 6, 0, 5, 0, 0, 0, 0, 0]);
+    assert_eq!(number_and_place(write_slopes(&TABLE_4.0, &TABLE_4.1, &TABLE_4.2, &TABLE_4.3, &mut buffer[..93])), (26, 0));
+    let card = check(&table_4_card()).unwrap();
+    assert_eq!((card.kind.head(), card.left, card.right, card.minutes.len()), (6, 0, 0, 5));
+    // Its fourth derivative jumps from -4.19 to -8.16 times 24 at the second knot, and is not 0 at the first.
+    assert_eq!(number_and_place(check(&card_bytes(&TABLE_4.0, &TABLE_4.1, &TABLE_4.2, &TABLE_4.3, 0, 0))), (10, 0));
+    assert_eq!(number_and_place(check(&card_bytes(&TABLE_4.0, &TABLE_4.1, &TABLE_4.2, &TABLE_4.3, 1, 1))), (10, 1));
+    let listed = "0 7 8192 -50040\n2 11 61440 62873\n3 26 40960 -15637\n6 56 -110592 -43126\n7 29 -122880 -63527\nok 5\n";
+    assert_eq!(lister(&table_4_card()), listed);
+}
+
+/// Table 3's curve goes on in both orders, so that it is a card of either kind; with the third alone held one
+/// unit more at its middle is accepted, two are not.
+#[test]
+fn table_3_is_a_card_of_either_kind() {
+    let with = |curvature: i32| {
+        let mut curvatures = CURVATURES;
+        curvatures[2] = curvature;
+        number_and_place(check(&sloped_bytes(&MINUTES, &ORDINATES, &SLOPES, &curvatures)))
+    };
+    assert_eq!([-108_801, -108_800, -108_799].map(with), [(0, 0); 3]);
+    assert_eq!([-108_802, -108_798].map(with), [(10, 2); 2]);
+    let sloped = sloped_bytes(&MINUTES, &ORDINATES, &SLOPES, &CURVATURES);
+    assert_eq!(lister(&sloped), TABLE_3);
+    for minute in 0..=33 {
+        assert_eq!(reading(&sloped, minute), reading(&table_3_card(), minute));
+    }
+    assert_eq!(swing(&sloped), swing(&table_3_card()));
+    assert_eq!([check(&sloped), check(&table_3_card())].map(|card| card.unwrap().kind.head()), [6, 1]);
+    let (mut ours, mut theirs) = ([vec![7; 40], vec![7; 40], vec![7; 40]], [vec![7; 40], vec![7; 40], vec![7; 40]]);
+    for (card, [values, slopes, curvatures]) in [(sloped, &mut ours), (table_3_card(), &mut theirs)] {
+        assert_eq!(table(&card, 3, values, slopes, curvatures), Ok(30));
+    }
+    assert_eq!(ours, theirs);
+}
+
+#[test]
+fn the_heads_number_tells_the_kind() {
+    let headed = |head: u16, left: u16, right: u16| {
+        number_and_place(check(&headed_bytes(head, &MINUTES, &ORDINATES, &SLOPES, &CURVATURES, left, right)))
+    };
+    assert_eq!([1, 6].map(|head| headed(head, 0, 0)), [(0, 0); 2]);
+    assert_eq!([0, 2, 3, 4, 5, 7, 8, 257, 262, 1536].map(|head| headed(head, 0, 0)), [(14, 0); 10]);
+    assert_eq!([(1, 0), (2, 0), (3, 0), (1, 1)].map(|(left, right)| headed(6, left, right)), [(15, 0); 4]);
+    assert_eq!([(0, 1), (0, 2), (0, 256)].map(|(left, right)| headed(6, left, right)), [(15, 1); 3]);
+    assert_eq!([(1, 0), (2, 0), (0, 1), (0, 2)].map(|(left, right)| headed(1, left, right)), [(0, 0); 4]);
+    // A head of another length or cut short is 14 whatever its number; the knots' number is before the codes,
+    // these before the other records.
+    let mut card = table_4_card();
+    card[0] = 5;
+    assert_eq!(number_and_place(check(&card)), (14, 0));
+    assert_eq!(number_and_place(check(&table_4_card()[..9])), (14, 0));
+    assert_eq!(number_and_place(check(&headed_bytes(6, &[0, 1], &[0; 2], &[0; 2], &[0; 2], 1, 1))), (1, 0));
+    assert_eq!(number_and_place(check(&[6, 0, 6, 0, 65, 0, 1, 0, 0, 0])), (2, 0));
+    assert_eq!(number_and_place(check(&[6, 0, 6, 0, 64, 0, 1, 0, 0, 0])), (15, 0));
+    assert_eq!(number_and_place(check(&[6, 0, 6, 0, 64, 0, 0, 0, 0, 0])), (14, 10));
+}
+
+/// What the fit to slopes answers; refused, it has written nothing.
+fn fit_slopes_number(minutes: &[u16], ordinates: &[i16], slopes: &[i32]) -> (u32, u32) {
+    let mut curvatures = vec![7; minutes.len()];
+    let answer = fit_slopes(minutes, ordinates, slopes, &mut curvatures);
+    assert!(answer.is_ok() || curvatures.iter().all(|&c| c == 7));
+    number_and_place(answer)
+}
+
+#[test]
+fn the_fit_to_slopes_goes_3_1_2_the_knots_the_slopes_the_curvatures() {
+    let past = CARD_NUMBER_LIMIT + 1;
+    assert_eq!(number_and_place(fit_slopes(&[0, 1], &[0; 2], &[past; 2], &mut [0; 3])), (3, 0));
+    assert_eq!(number_and_place(fit_slopes(&[0, 1, 2], &[0; 3], &[past; 2], &mut [0; 3])), (3, 0));
+    assert_eq!(fit_slopes_number(&[1, 0], &[0; 2], &[past; 2]), (1, 0));
+    assert_eq!(fit_slopes_number(&[0; 65], &[0; 65], &[past; 65]), (2, 0));
+    assert_eq!(fit_slopes_number(&[0, 1, 1], &[0; 3], &[past; 3]), (4, 2));
+    assert_eq!(fit_slopes_number(&[0, 61, 61], &[0, 20_001, 0], &[past; 3]), (5, 1));
+    assert_eq!(fit_slopes_number(&[0, 60, 120], &[0, 0, -20_001], &[-past; 3]), (6, 2));
+    // On a line that rises by 256 a minute: at the limit, one past it, and the lowest place.
+    let rising = |slopes: [i32; 3]| fit_slopes_number(&[0, 1, 2], &[0, 256, 512], &slopes);
+    assert_eq!(rising([past - 1; 3]), (0, 0));
+    assert_eq!(rising([past - 1, past - 1, past]), (9, 2));
+    assert_eq!(rising([past - 1, -past, past]), (9, 1));
+    // Between slopes of s, 0 and -s a minute apart the curvatures are -3.5s, 1.5s, -3.5s: at the limit by a
+    // half, which is even.
+    let steep = |s: i32| fit_slopes_number(&[0, 1, 2], &[0; 3], &[s, 0, -s]);
+    assert_eq!([299_593, -299_593].map(steep), [(0, 0); 2]);
+    assert_eq!([299_594, -299_594].map(steep), [(9, 0); 2]);
+    // The slopes' 9 stands at its own place, though a curvature before it would be beyond too.
+    assert_eq!(fit_slopes_number(&[0, 1, 2], &[0; 3], &[299_594, 0, -past]), (9, 2));
+}
+
+#[test]
+fn the_writer_of_given_slopes_goes_3_1_2_the_knots_9_10_26() {
+    let past = CARD_NUMBER_LIMIT + 1;
+    let written = |minutes: &[u16], ordinates: &[i16], slopes: &[i32], curvatures: &[i32]| {
+        number_and_place(write_slopes(minutes, ordinates, slopes, curvatures, &mut [0; 61]))
+    };
+    assert_eq!(written(&[0, 1], &[0; 2], &[past; 2], &[0; 3]), (3, 0));
+    assert_eq!(written(&[0, 0], &[0; 2], &[past; 2], &[0; 2]), (1, 0));
+    assert_eq!(written(&[0; 65], &[0; 65], &[past; 65], &[0; 65]), (2, 0));
+    assert_eq!(written(&[0, 1, 0], &[0; 3], &[past; 3], &[0; 3]), (4, 2));
+    assert_eq!(written(&[0, 1, 62], &[0; 3], &[past; 3], &[0; 3]), (5, 2));
+    assert_eq!(written(&[0, 1, 2], &[0, HOLE, 0], &[past; 3], &[0; 3]), (6, 1));
+    assert_eq!(written(&[0, 1, 2], &[0; 3], &[0, 0, past], &[0, past, 0]), (9, 1));
+    assert_eq!(written(&[0, 1, 2], &[0; 3], &[0; 3], &[0, 0, 3]), (10, 2));
+    assert_eq!(written(&[0, 1, 2], &[0; 3], &[0; 3], &[0; 3]), (26, 0));
+}
+
+/// What a fresh fit gives: how many changed, and both lists.
+fn anew(card: &[u8]) -> (u32, Vec<i32>, Vec<i32>) {
+    let (mut slopes, mut curvatures) = (vec![7; 6], vec![7; 6]);
+    let Refitted { knots, changed } = refit(card, &mut slopes, &mut curvatures).unwrap();
+    assert_eq!((knots, slopes[5], curvatures[5]), (5, 7, 7));
+    (changed, slopes[..5].to_vec(), curvatures[..5].to_vec())
+}
+
+#[test]
+fn a_fresh_fit_keeps_given_slopes() {
+    assert_eq!(anew(&table_4_card()), (0, TABLE_4.2.to_vec(), TABLE_4.3.to_vec()));
+    let mut off = TABLE_4.3;
+    off[1] += 1;
+    off[4] -= 1;
+    assert_eq!(anew(&sloped_bytes(&TABLE_4.0, &TABLE_4.1, &TABLE_4.2, &off)), (2, TABLE_4.2.to_vec(), TABLE_4.3.to_vec()));
+    // A slope that was changed stays, and the curvatures beside it show it.
+    let (minutes, slopes) = ([0, 60, 120, 180, 240], [0, 0, 40, 0, 0]);
+    let changed = anew(&sloped_bytes(&minutes, &[0; 5], &slopes, &[0; 5]));
+    assert_eq!(changed, (2, slopes.to_vec(), vec![0, -1, 0, 1, 0]));
+    let (mut few, mut many) = ([0; 4], [0; 5]);
+    assert_eq!(number_and_place(refit(&table_4_card(), &mut few, &mut many)), (3, 0));
+    assert_eq!(number_and_place(refit(&table_4_card(), &mut few, &mut [0; 4])), (26, 0));
+}
+
+#[test]
+fn a_book_has_cards_of_both_kinds() {
+    let mut book = book_of(&[]);
+    book.resize(300, 9);
+    assert_eq!(put(&mut book, 4, &table_4_card()), (0, 0, 104));
+    assert_eq!(put(&mut book, 3, &table_3_card()), (0, 0, 204));
+    assert_eq!((found(&book, 3), found(&book, 4)), ((0, 0, 6, 94), (0, 0, 106, 94)));
+    assert_eq!(check(&book[106..200]).unwrap().kind, Kind::Sloped);
+    let mut coded = table_4_card();
+    coded[8] = 2;
+    assert_eq!(put(&mut book, 5, &coded), (15, 1, 0));
+    assert_eq!(found(&book_of(&[(5, &coded)]), 5), (15, 1, 0, 0));
+    coded[2] = 5;
+    assert_eq!(put(&mut book, 5, &coded), (14, 0, 0));
+}
+
+/// At uneven gaps each rounding counts. The bits are those of a program of its own, in another language.
+#[test]
+fn the_curvatures_of_uneven_gaps_by_their_bits() {
+    let slopes = [-327_680, -2_384, 214_527, 620_000];
+    let curvatures = eliminate_slopes(&UNEVEN.0, &UNEVEN.1, &slopes).unwrap();
+    let bits: Vec<u64> = curvatures.into_iter().map(f64::to_bits).collect();
+    assert_eq!(bits, [0x4010_129b_e2c5_df81, 0x400e_92da_83d6_703e, 0x4009_cb4a_438b_36dc, 0x4006_728f_bfb4_7532]);
+    let plain = slopes.map(|slope| f64::from(slope) / 4096.0);
+    let second = line(&gap(&UNEVEN.0, &UNEVEN.1, 0), &gap(&UNEVEN.0, &UNEVEN.1, 1), plain[0], plain[1], plain[2]);
+    assert_eq!(second.k.to_bits(), 0x3fed_7edf_c351_8a70);
+}

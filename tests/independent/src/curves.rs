@@ -489,8 +489,8 @@ pub fn about_a_half(sheet: &Sheet, ends: [End; 2], turn: Turn) -> Option<f64> {
     }
 }
 
-/// A slope for each knot of a sheet, in card units and within the limit: those of a smooth curve through it, near these, the
-/// chords' between a knot's neighbours, none, any at all, or at the limit.
+/// A slope for each knot of a sheet, in card units and within the limit: those of a smooth curve through it,
+/// near these, the chords' between a knot's neighbours, none, any at all, or at the limit.
 pub fn slopes(random: &mut Random, sheet: &Sheet) -> Vec<i32> {
     let n = sheet.minutes.len();
     if n < 2 {
@@ -528,7 +528,8 @@ pub fn spoil_a_slope(random: &mut Random, slopes: &mut [i32]) {
     }
 }
 
-/// A card of the second kind whose curvatures the reference has fitted to these slopes, where it is not refused.
+/// A card of the second kind whose curvatures the reference has fitted to these slopes, where it is not
+/// refused.
 pub fn sloped(sheet: Sheet, slopes: Vec<i32>) -> Option<Numbers> {
     let mut curvatures = vec![0; slopes.len()];
     let fit = reference::fit_slopes(&sheet.minutes, &sheet.ordinates, &slopes, &mut curvatures);
@@ -557,7 +558,8 @@ pub fn fitted_to_slopes_at(random: &mut Random, minutes: &[u16]) -> Numbers {
     }
 }
 
-/// Document 01's card of Table 3 with the head of the second kind: its slopes taken as given, its curvatures are theirs.
+/// Document 01's card of Table 3 with the head of the second kind: its slopes taken as given, its curvatures
+/// are theirs.
 pub fn table_3_sloped() -> Numbers {
     Numbers { kind: Kind::Sloped, ..table_3() }
 }
@@ -580,16 +582,16 @@ fn small_with_slopes(random: &mut Random, widest: i64) -> (Sheet, Vec<i32>) {
     (Sheet { minutes, ordinates }, slopes)
 }
 
-/// Such a sheet of which one curvature is at a half as far as binary64 goes, so that a single operation rounded in another way
-/// shows in the card; or none of this draw.
+/// Such a sheet of which one curvature is at a half as far as binary64 goes, so that a single operation
+/// rounded in another way shows in the card; or none of this draw.
 pub fn slopes_at_a_half(random: &mut Random) -> Option<(Sheet, Vec<i32>)> {
     let (sheet, slopes) = small_with_slopes(random, 7);
     let at_a_half = |u: &f64| ((u - u.floor()) - 0.5).abs() < 1e-8;
     eliminated(&sheet, &slopes)?.iter().any(at_a_half).then_some((sheet, slopes))
 }
 
-/// Such a sheet, scaled and one of its slopes then stepped until the largest of its curvatures passes the limit: the slopes just
-/// before and just behind.
+/// Such a sheet, scaled and one of its slopes then stepped until the largest of its curvatures passes the
+/// limit: the slopes just before and just behind.
 pub fn slopes_about_the_limit(random: &mut Random) -> Option<(Sheet, [Vec<i32>; 2])> {
     let (mut sheet, mut slopes) = small_with_slopes(random, 12);
     let limit = f64::from(CARD_NUMBER_LIMIT);

@@ -46,8 +46,8 @@ pub fn fits(tally: &mut Tally, random: &mut Random) {
     }
 }
 
-/// Fits to slopes of which one curvature stands at a half before it is rounded; and the same with one slope a little more or
-/// less.
+/// Fits to slopes of which one curvature stands at a half before it is rounded; and the same with one slope a
+/// little more or less.
 pub fn at_a_half(tally: &mut Tally, random: &mut Random) {
     let mut met = 0;
     for _ in 0..600_000 {
@@ -80,8 +80,8 @@ impl Met {
     }
 }
 
-/// Heads: those of the two kinds, the numbers about them, those of the other records, and such as are a head's with their bytes
-/// changed over.
+/// Heads: those of the two kinds, the numbers about them, those of the other records, and such as are a
+/// head's with their bytes changed over.
 const HEADS: [u16; 14] = [0, 1, 2, 3, 4, 5, 6, 7, 8, 255, 256, 257, 1536, 65_535];
 
 /// One card of either kind under every head, with every pair of codes.
@@ -96,8 +96,8 @@ fn under_every_head(tally: &mut Tally, random: &mut Random, met: &mut Met, numbe
     }
 }
 
-/// Bytes of cards of given slopes: cut, changed, under other heads, with codes, with curvatures a few units off; and cards of
-/// document 01 under the other head.
+/// Bytes of cards of given slopes: cut, changed, under other heads, with codes, with curvatures a few units
+/// off; and cards of document 01 under the other head.
 pub fn cards(tally: &mut Tally, random: &mut Random) {
     let met = &mut Met::default();
     let mut few = vec![curves::table_3_sloped(), curves::fitted_to_slopes(random, 3), curves::fitted_to_slopes(random, 7)];
@@ -124,7 +124,8 @@ pub fn cards(tally: &mut Tally, random: &mut Random) {
             _ => Numbers { kind: Kind::Sloped, left: 0, right: 0, ..curves::fitted(random, n, 0, 0) },
         };
         for _ in 0..random.below(3) {
-            numbers.curvatures[random.below(n)] += random.within(-3, 3) as i32;
+            let curvature = &mut numbers.curvatures[random.below(n)];
+            *curvature = curvature.saturating_add(random.within(-3, 3) as i32);
         }
         match random.below(8) {
             0 => curves::spoil(random, &mut numbers.sheet),
@@ -135,7 +136,9 @@ pub fn cards(tally: &mut Tally, random: &mut Random) {
         let Sheet { minutes, ordinates } = &numbers.sheet;
         let length = card_size(n) + random.below(3) - 1;
         compare::write_slopes(tally, minutes, ordinates, &numbers.slopes, &numbers.curvatures, length);
-        met.card(tally, random, &numbers.bytes());
+        let bytes = numbers.bytes();
+        let cut = if random.once_in(12) { random.below(bytes.len()) } else { bytes.len() };
+        met.card(tally, random, &bytes[..cut]);
         met.card(tally, random, &numbers.headed(Kind::Quintic.head()));
     }
     for n in [0, 1, 2, MOST_KNOTS + 1, MOST_KNOTS + 2] {
@@ -163,8 +166,8 @@ pub fn readings(tally: &mut Tally, random: &mut Random) {
     }
 }
 
-/// Cards of given slopes with one number stepped until they are refused: the last card accepted and the first refused, each under
-/// both heads; and each curvature one, two and three units off.
+/// Cards of given slopes with one number stepped until they are refused: the last card accepted and the first
+/// refused, each under both heads; and each curvature one, two and three units off.
 pub fn near_the_allowance(tally: &mut Tally, random: &mut Random) {
     for turn in 0..120 {
         let n = if turn % 10 == 0 { random.within(3, 64) } else { random.within(3, 9) } as usize;
@@ -189,8 +192,9 @@ pub fn near_the_allowance(tally: &mut Tally, random: &mut Random) {
     }
 }
 
-/// Fits to slopes whose largest curvature is at the limit or just past it; cards with that curvature at the limit, of which some
-/// are accepted and their fresh fit is refused; and fresh fits of fitted and of changed cards.
+/// Fits to slopes whose largest curvature is at the limit or just past it; cards with that curvature at the
+/// limit, of which some are accepted and their fresh fit is refused; and fresh fits of fitted and of changed
+/// cards.
 pub fn fresh_fits_and_limits(tally: &mut Tally, random: &mut Random) {
     let mut met = 0;
     for _ in 0..20_000 {
