@@ -14,7 +14,7 @@ fn same<A: Debug + PartialEq>(library: &Library, question: &dyn Debug, ask: impl
     assert_eq!(ask(library), ask(&Plain), "{question:?}");
 }
 
-fn same_fit(library: &Library, sheet: &Sheet, ends: [End; 2]) {
+fn same_fit(library: &Library, sheet: &Sheet, ends: [End; 2], given: &[i32]) {
     let (n, knots) = (sheet.minutes.len(), (&sheet.minutes[..], &sheet.ordinates[..]));
     same(library, &("fit", sheet), |by| {
         let (mut slopes, mut curvatures) = (vec![7; n], vec![8; n]);
@@ -23,6 +23,10 @@ fn same_fit(library: &Library, sheet: &Sheet, ends: [End; 2]) {
     same(library, &("fit between", ends, sheet), |by| {
         let (mut slopes, mut curvatures) = (vec![7; n], vec![8; n]);
         (by.fit_ends(knots, &mut slopes, &mut curvatures, ends[0], ends[1]), slopes, curvatures)
+    });
+    same(library, &("fit to slopes", given, sheet), |by| {
+        let mut curvatures = vec![8; n];
+        (by.fit_slopes(knots, given, &mut curvatures), curvatures)
     });
 }
 
@@ -63,6 +67,10 @@ fn same_written(library: &Library, card: &Numbers, room: usize) {
     same(library, &("write", room, card), |by| {
         let mut buffer = vec![9; room];
         (by.write(knots, &card.slopes, &card.curvatures, (card.left, card.right), &mut buffer), buffer)
+    });
+    same(library, &("write of given slopes", room, card), |by| {
+        let mut buffer = vec![9; room];
+        (by.write_slopes(knots, &card.slopes, &card.curvatures, &mut buffer), buffer)
     });
 }
 
@@ -146,14 +154,19 @@ pub fn compare(library: &Library, inputs: &Inputs) {
     let random = &mut Random::new(2025);
     cards(library, &inputs.hours, random);
     cards(library, &inputs.mixed, random);
+    cards(library, &inputs.sloped, random);
     let specials = curves::given_numbers();
     for n in 0..=KNOTS + 2 {
         for turn in 0..60 {
             let mut sheet = curves::sheet(random, n);
+            let mut slopes = curves::slopes(random, &sheet);
             for _ in 0..turn % 3 {
                 curves::spoil(random, &mut sheet);
             }
-            same_fit(library, &sheet, ends(random, &specials));
+            if turn % 5 == 0 {
+                curves::spoil_a_slope(random, &mut slopes);
+            }
+            same_fit(library, &sheet, ends(random, &specials), &slopes);
             curves::pierce(random, &mut sheet);
             same_mend(library, &sheet, random.pick(&[0, 1, n / 2, n]));
         }
@@ -163,8 +176,12 @@ pub fn compare(library: &Library, inputs: &Inputs) {
         let codes = (random.below(3) as u16, random.below(3) as u16);
         let extreme = curves::extreme(random, n);
         let fitted = curves::fitted(random, n, codes.0, codes.1);
-        for card in curves::large_and_sound(random).iter().chain([&extreme, &fitted]) {
+        let mut sloped = curves::fitted_to_slopes(random, n);
+        sloped.curvatures[random.below(n)] += random.within(-2, 2) as i32;
+        sloped.left = random.pick(&[0, 0, 0, 1, 2]);
+        for card in curves::large_and_sound(random).iter().chain([&extreme, &fitted, &sloped]) {
             same_card(library, &card.bytes());
+            same_card(library, &card.headed(random.pick(&[1, 6, 7])));
             same_written(library, card, random.pick(&[0, 14 + 16 * n, 2000]));
         }
     }

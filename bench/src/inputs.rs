@@ -1,5 +1,5 @@
-//! What is timed: cards of 64 knots on gaps of an hour and on gaps of 20 to 60 minutes, logs, sheets with
-//! holes, and books of fourteen rooms.
+//! What is timed: cards of 64 knots on gaps of an hour and on gaps of 20 to 60 minutes, the latter with given
+//! slopes too, logs, sheets with holes, and books of fourteen rooms.
 
 use independent::curves::{self, Numbers, Sheet};
 use independent::random::Random;
@@ -22,6 +22,7 @@ pub struct Cards {
 pub struct Inputs {
     pub hours: Cards,
     pub mixed: Cards,
+    pub sloped: Cards,
     pub logs: Vec<Vec<u8>>,
     pub sheets: Vec<Sheet>,
     pub books: Vec<Vec<u8>>,
@@ -42,8 +43,18 @@ fn card(random: &mut Random, gap: impl Fn(&mut Random) -> u16) -> Numbers {
     }
 }
 
+/// The same knots with slopes that were measured: a little off the fit's.
+fn with_slopes(random: &mut Random, card: &Numbers) -> Numbers {
+    let slopes = card.slopes.iter().map(|slope| slope + random.within(-400, 400) as i32).collect();
+    curves::sloped(card.sheet.clone(), slopes).expect("slopes near a fit's are fitted to")
+}
+
 fn cards(random: &mut Random, gap: impl Fn(&mut Random) -> u16) -> Cards {
-    let numbers: Vec<Numbers> = (0..INPUTS).map(|_| card(random, &gap)).collect();
+    let numbers = (0..INPUTS).map(|_| card(random, &gap)).collect();
+    cards_of(random, numbers)
+}
+
+fn cards_of(random: &mut Random, numbers: Vec<Numbers>) -> Cards {
     let bytes = numbers.iter().map(Numbers::bytes).collect();
     let minutes = numbers.iter().map(|card| first_and_count(card).0 + random.below(first_and_count(card).1) as u16).collect();
     Cards { numbers, bytes, minutes }
@@ -88,5 +99,7 @@ pub fn inputs(random: &mut Random) -> Inputs {
     let sheets = (0..INPUTS).map(|_| sheet_with_holes(random)).collect();
     let books = (0..INPUTS).map(|first| hall(&mixed.bytes, first)).collect();
     let short_card = curves::fitted(random, 3, 0, 0).bytes();
-    Inputs { hours, mixed, logs, sheets, books, short_card }
+    let given = mixed.numbers.iter().map(|card| with_slopes(random, card)).collect();
+    let sloped = cards_of(random, given);
+    Inputs { hours, mixed, sloped, logs, sheets, books, short_card }
 }

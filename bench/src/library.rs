@@ -13,7 +13,9 @@ pub trait Functions {
     fn mean(&self, first: u16, log: &[u8]) -> Mean;
     fn fit(&self, knots: Knots, slopes: &mut [i32], curvatures: &mut [i32]) -> Fitted;
     fn fit_ends(&self, knots: Knots, slopes: &mut [i32], curvatures: &mut [i32], left: End, right: End) -> Fitted;
+    fn fit_slopes(&self, knots: Knots, slopes: &[i32], curvatures: &mut [i32]) -> Fitted;
     fn write(&self, knots: Knots, slopes: &[i32], curvatures: &[i32], codes: (u16, u16), buffer: &mut [u8]) -> Written;
+    fn write_slopes(&self, knots: Knots, slopes: &[i32], curvatures: &[i32], buffer: &mut [u8]) -> Written;
     fn check(&self, card: &[u8]) -> Checked;
     fn read(&self, card: &[u8], minutes: &mut [u16], ordinates: &mut [i16], slopes: &mut [i32], curvatures: &mut [i32]) -> Checked;
     fn reading(&self, card: &[u8], minute: u16) -> Reading;
@@ -46,6 +48,7 @@ pub struct Library {
         f64,
         f64,
     ) -> Fitted,
+    fit_slopes: unsafe extern "C" fn(*const u16, usize, *const i16, usize, *const i32, usize, *mut i32, usize) -> Fitted,
     write: unsafe extern "C" fn(
         *const u16,
         usize,
@@ -60,6 +63,8 @@ pub struct Library {
         *mut u8,
         usize,
     ) -> Written,
+    write_slopes:
+        unsafe extern "C" fn(*const u16, usize, *const i16, usize, *const i32, usize, *const i32, usize, *mut u8, usize) -> Written,
     check: unsafe extern "C" fn(*const u8, usize) -> Checked,
     read: unsafe extern "C" fn(*const u8, usize, *mut u16, usize, *mut i16, usize, *mut i32, usize, *mut i32, usize) -> Checked,
     reading: unsafe extern "C" fn(*const u8, usize, u16) -> Reading,
@@ -122,6 +127,12 @@ impl Functions for Library {
         }
     }
 
+    fn fit_slopes(&self, (minutes, ordinates): Knots, slopes: &[i32], curvatures: &mut [i32]) -> Fitted {
+        let (n, m) = (slopes.len(), curvatures.len());
+        let (slopes, curvatures) = (slopes.as_ptr(), curvatures.as_mut_ptr());
+        unsafe { (self.fit_slopes)(minutes.as_ptr(), minutes.len(), ordinates.as_ptr(), ordinates.len(), slopes, n, curvatures, m) }
+    }
+
     fn write(&self, (minutes, ordinates): Knots, slopes: &[i32], curvatures: &[i32], codes: (u16, u16), buffer: &mut [u8]) -> Written {
         unsafe {
             (self.write)(
@@ -135,6 +146,23 @@ impl Functions for Library {
                 curvatures.len(),
                 codes.0,
                 codes.1,
+                buffer.as_mut_ptr(),
+                buffer.len(),
+            )
+        }
+    }
+
+    fn write_slopes(&self, (minutes, ordinates): Knots, slopes: &[i32], curvatures: &[i32], buffer: &mut [u8]) -> Written {
+        unsafe {
+            (self.write_slopes)(
+                minutes.as_ptr(),
+                minutes.len(),
+                ordinates.as_ptr(),
+                ordinates.len(),
+                slopes.as_ptr(),
+                slopes.len(),
+                curvatures.as_ptr(),
+                curvatures.len(),
                 buffer.as_mut_ptr(),
                 buffer.len(),
             )

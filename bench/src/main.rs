@@ -184,6 +184,15 @@ fn main() {
             black_box(&lists);
         })
     });
+    let sloped = &inputs.sloped;
+    bench.line("fit of 64 knots to given slopes", 1.0, INPUTS, |by| {
+        let mut curvatures = [0; KNOTS];
+        Box::new(move |i| {
+            let card = black_box(&sloped.numbers[i]);
+            black_box(by.fit_slopes((&card.sheet.minutes, &card.sheet.ordinates), &card.slopes, &mut curvatures));
+            black_box(&curvatures);
+        })
+    });
     bench.line("card of 64 knots written", 1.0, INPUTS, |by| {
         let mut buffer = [0; 14 + 16 * KNOTS];
         Box::new(move |i| {
@@ -193,11 +202,22 @@ fn main() {
             black_box(&buffer);
         })
     });
-    bench.line("check of a card of 64 knots", 1.0, INPUTS, |by| {
-        Box::new(|i| {
-            black_box(by.check(black_box(&cards.bytes[i])));
+    bench.line("card of 64 knots with given slopes written", 1.0, INPUTS, |by| {
+        let mut buffer = [0; 14 + 16 * KNOTS];
+        Box::new(move |i| {
+            let card = black_box(&sloped.numbers[i]);
+            let knots = (&card.sheet.minutes[..], &card.sheet.ordinates[..]);
+            black_box(by.write_slopes(knots, &card.slopes, &card.curvatures, &mut buffer));
+            black_box(&buffer);
         })
     });
+    for (name, cards) in [("check of a card of 64 knots", cards), ("check of 64 knots with given slopes", sloped)] {
+        bench.line(name, 1.0, INPUTS, |by| {
+            Box::new(|i| {
+                black_box(by.check(black_box(&cards.bytes[i])));
+            })
+        });
+    }
     bench.line("card of 64 knots read into lists", 1.0, INPUTS, |by| {
         let mut lists = ([0; KNOTS], [0; KNOTS], [0; KNOTS], [0; KNOTS]);
         Box::new(move |i| {
@@ -222,13 +242,15 @@ fn main() {
             })
         });
     }
-    bench.line("fresh fit of a card of 64 knots", 1.0, INPUTS, |by| {
-        let mut lists = ([0; KNOTS], [0; KNOTS]);
-        Box::new(move |i| {
-            black_box(by.refit(black_box(&cards.bytes[i]), &mut lists.0, &mut lists.1));
-            black_box(&lists);
-        })
-    });
+    for (name, cards) in [("fresh fit of a card of 64 knots", cards), ("fresh fit of 64 knots with given slopes", sloped)] {
+        bench.line(name, 1.0, INPUTS, |by| {
+            let mut lists = ([0; KNOTS], [0; KNOTS]);
+            Box::new(move |i| {
+                black_box(by.refit(black_box(&cards.bytes[i]), &mut lists.0, &mut lists.1));
+                black_box(&lists);
+            })
+        });
+    }
     bench.line("mending of 64 knots, a fifth of them holes", 1.0, INPUTS, |by| {
         let mut lists = ([0; KNOTS], [0; KNOTS], [0; KNOTS], [Change::default(); KNOTS]);
         Box::new(move |i| {
