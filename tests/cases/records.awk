@@ -2,10 +2,11 @@
 
 BEGIN {
     FS = " *[|] *"
-    split("minutes ordinates slopes curvatures ends left right minute log bytes length room changes places", names, " ")
+    split("minutes ordinates slopes curvatures ends head left right minute log bytes length room changes places", names, " ")
     for (i in names) known[names[i]] = 1
     for (i = 1; i < 256; i++) character[sprintf("%c", i)] = i
     printed = 0; mean = 1; reading = 2; check = 3; swing = 4; fit = 5; fit_codes = 6; write = 7; read = 8; mend = 9
+    fit_slopes = 10; write_slopes = 11
 }
 
 function fail(words) {
@@ -152,7 +153,7 @@ function card(    text, i, n) {
     n = count["minutes"]
     if (given["bytes"]) text = all_of("bytes")
     else {
-        text = little(6, 2) little(1, 2) little(n, 2) little(value["ends", 1], 2) little(value["ends", 2], 2)
+        text = little(6, 2) little(number("head", 1), 2) little(n, 2) little(value["ends", 1], 2) little(value["ends", 2], 2)
         for (i = 1; i <= n; i++)
             text = text little(12, 2) little(2, 2) little(value["minutes", i], 2) little(value["ordinates", i], 2) little(value["slopes", i], 4) little(value["curvatures", i], 4)
         text = text little(0, 2) little(3, 2)
@@ -193,6 +194,10 @@ function ask(word,    x, y, m, c) {
         ended_record(fit_codes, lent("minutes", x, 2) lent("ordinates", y, 2) sevens(m, 4) sevens(c, 4) quotient(value["left", 1]) quotient(value["left", 2]) quotient(value["right", 1]) quotient(value["right", 2]))
     else if (word == "write")
         ended_record(write, lent("minutes", x, 2) lent("ordinates", y, 2) lent("slopes", m, 4) lent("curvatures", c, 4) sevens(number("room", 14 + 16 * count["minutes"]), 1))
+    else if (word == "fit_slopes")
+        lists_record(fit_slopes, 0, 0, lent("minutes", x, 2) lent("ordinates", y, 2) lent("slopes", m, 4) sevens(c, 4))
+    else if (word == "write_slopes")
+        lists_record(write_slopes, 0, 0, lent("minutes", x, 2) lent("ordinates", y, 2) lent("slopes", m, 4) lent("curvatures", c, 4) sevens(number("room", 14 + 16 * count["minutes"]), 1))
     else if (word == "read") ended_record(read, sevens(x, 2) sevens(y, 2) sevens(m, 4) sevens(c, 4) card())
     else if (word == "mend")
         lists_record(mend, number("changes", count["minutes"]), 0, lent("minutes", x, 2) lent("ordinates", y, 2) sevens(m, 4) sevens(c, 4))

@@ -9,12 +9,13 @@ use std::str::FromStr;
 /// A line's fields, each as its words.
 type Fields = BTreeMap<String, Vec<String>>;
 
-const NAMES: [&str; 14] = [
+const NAMES: [&str; 15] = [
     "minutes",
     "ordinates",
     "slopes",
     "curvatures",
     "ends",
+    "head",
     "left",
     "right",
     "minute",
@@ -104,7 +105,10 @@ impl Asked {
         let [left, right] = ends.unwrap_or([0, 0]);
         let mut card = match fields.get("bytes") {
             Some(words) => words.iter().map(|word| hexadecimal(word)).collect::<Result<_, _>>()?,
-            None => card_bytes(&minutes, &ordinates, &slopes, &curvatures, left, right),
+            None => {
+                let head = so_many(fields, "head", parse)?.map_or(Kind::Quintic.head(), |[head]| head);
+                headed_bytes(head, &minutes, &ordinates, &slopes, &curvatures, left, right)
+            }
         };
         if let Some([length]) = so_many(fields, "length", parse)? {
             card.resize(length, 0);
@@ -146,6 +150,14 @@ impl Asked {
         verdict(&answer) + &shown("slopes", &slopes) + &shown("curvatures", &curvatures)
     }
 
+    fn fit_slopes(&self) -> String {
+        let [x, y, m, c] = self.places;
+        let (minutes, ordinates) = (places_of(&self.minutes, x), places_of(&self.ordinates, y));
+        let mut curvatures = vec![7; c];
+        let answer = fit_slopes(&minutes, &ordinates, &places_of(&self.slopes, m), &mut curvatures);
+        verdict(&answer) + &shown("curvatures", &curvatures)
+    }
+
     fn write(&self) -> String {
         let [x, y, m, c] = self.places;
         let [left, right] = self.ends.unwrap_or([0, 0]);
@@ -159,8 +171,20 @@ impl Asked {
             right,
             &mut buffer,
         );
-        let bytes: Vec<String> = buffer.iter().map(|byte| format!("{byte:02x}")).collect();
-        format!("{}; bytes {}", verdict(&answer), answer.unwrap_or(0)) + &shown("buffer", &bytes)
+        written(&answer, &buffer)
+    }
+
+    fn write_slopes(&self) -> String {
+        let [x, y, m, c] = self.places;
+        let mut buffer = vec![7; self.room];
+        let answer = write_slopes(
+            &places_of(&self.minutes, x),
+            &places_of(&self.ordinates, y),
+            &places_of(&self.slopes, m),
+            &places_of(&self.curvatures, c),
+            &mut buffer,
+        );
+        written(&answer, &buffer)
     }
 
     fn check(&self) -> String {
@@ -209,7 +233,9 @@ impl Asked {
         match word {
             "mean" => Ok(self.mean()),
             "fit" => Ok(self.fit()),
+            "fit_slopes" => Ok(self.fit_slopes()),
             "write" => Ok(self.write()),
+            "write_slopes" => Ok(self.write_slopes()),
             "check" => Ok(self.check()),
             "read" => Ok(self.read()),
             "reading" => Ok(self.reading()),
@@ -244,8 +270,14 @@ fn verdict<T>(answer: &Result<T, Refusal>) -> String {
 }
 
 fn head(answer: &Result<Card, Refusal>) -> String {
-    let (knots, left, right) = answer.as_ref().map_or((0, 0, 0), |card| (card.minutes.len(), card.left, card.right));
-    format!("{}; knots {knots}; left {left}; right {right}", verdict(answer))
+    let (knots, left, right, kind) =
+        answer.as_ref().map_or((0, 0, 0, 0), |card| (card.minutes.len(), card.left, card.right, card.kind.head()));
+    format!("{}; knots {knots}; left {left}; right {right}; kind {kind}", verdict(answer))
+}
+
+fn written(answer: &Result<u32, Refusal>, buffer: &[u8]) -> String {
+    let bytes: Vec<String> = buffer.iter().map(|byte| format!("{byte:02x}")).collect();
+    format!("{}; bytes {}", verdict(answer), answer.as_ref().map_or(0, |bytes| *bytes)) + &shown("buffer", &bytes)
 }
 
 fn shown<T: Display>(name: &str, list: &[T]) -> String {
