@@ -34,10 +34,6 @@ static uint32_t write_slopes(void) {
     return kaihveto_write_slopes(minutes, KNOTS, ordinates, KNOTS, slopes, KNOTS, curvatures, KNOTS, sloped_card, sizeof sloped_card).number;
 }
 
-static uint32_t refit_slopes(void) {
-    return kaihveto_refit(sloped_card, sizeof sloped_card, slopes, KNOTS, curvatures, KNOTS).number;
-}
-
 static uint32_t write_card(void) {
     return kaihveto_write(minutes, KNOTS, ordinates, KNOTS, slopes, KNOTS, curvatures, KNOTS, KAIHVETO_FREE, KAIHVETO_FREE, card, sizeof card).number;
 }
@@ -64,8 +60,10 @@ static uint32_t swing(void) {
     return r.below != 0 || r.above != 0 ? r.number : 1;
 }
 
+/* A card of either kind. */
 static uint32_t refit(void) {
-    return kaihveto_refit(card, sizeof card, slopes, KNOTS, curvatures, KNOTS).number;
+    uint32_t number = kaihveto_refit(sloped_card, sizeof sloped_card, slopes, KNOTS, curvatures, KNOTS).number;
+    return number | kaihveto_refit(card, sizeof card, slopes, KNOTS, curvatures, KNOTS).number;
 }
 
 static uint32_t mend(void) {
@@ -117,15 +115,14 @@ int main(void) {
     good &= line("fit", fit);
     good &= line("fit_ends", fit_ends);
     good &= line("write", write_card);
+    good &= line("fit_slopes", fit_slopes);
+    good &= line("write_slopes", write_slopes);
     good &= line("check", check);
     good &= line("read", read_card);
     good &= line("reading", reading);
     good &= line("table", table);
     good &= line("swing", swing);
     good &= line("refit", refit);
-    good &= line("fit_slopes", fit_slopes);
-    good &= line("write_slopes", write_slopes);
-    good &= line("refit, slopes", refit_slopes);
     good &= line("mend", mend);
     good &= kaihveto_fit(minutes, 3, ordinates, 3, slopes, 3, curvatures, 3).number == 0;
     good &= kaihveto_write(minutes, 3, ordinates, 3, slopes, 3, curvatures, 3, KAIHVETO_DEFAULT_LEFT, KAIHVETO_DEFAULT_RIGHT, short_card, sizeof short_card).number == 0;
