@@ -197,7 +197,7 @@ pub fn near_the_allowance(tally: &mut Tally, random: &mut Random) {
 /// cards.
 pub fn fresh_fits_and_limits(tally: &mut Tally, random: &mut Random) {
     let mut met = 0;
-    for _ in 0..20_000 {
+    for _ in 0..4_000 {
         let Some((sheet, sides)) = curves::slopes_about_the_limit(random) else { continue };
         for slopes in sides {
             fit_and_write(tally, random, &sheet, &slopes);
