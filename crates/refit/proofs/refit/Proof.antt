@@ -11,14 +11,13 @@ use Rattle.answer.proofs.Chain.{step-accepts, step-refused}
 use Rattle.curve.specs.Kind.{quintic}
 use Rattle.curve.specs.Card.{knots}
 use Rattle.curve.specs.Orders.{lists-order}
-use Rattle.curve.proofs.Accepted.{good}
-use Rattle.card_bytes.specs.Bytes.{quintic-head}
 use Rattle.card_bytes.specs.Held.{card-of}
-use Rattle.card_bytes.proofs.RoundTrip.{accepted-card}
+use Rattle.card_bytes.proofs.ByHead.{accepted-count}
 use Rattle.decode.specs.Decoded.{Holds}
 use Rattle.opened.proofs.Fronts.{knots-held}
+use Rattle.opened.proofs.Opening.{accepted-holds}
 use Rattle.card.specs.Answers.{own}
-use Rattle.card.proofs.Lists.{held, opened-order, Taken, order-takes}
+use Rattle.card.proofs.Lists.{opened-order, Taken, order-takes}
 use Rattle.refit.proofs.Renewal.{refits-refused, refits-given}
 use borrow.Author.Needs.{needs}
 use Rattle.refit.proofs.refit.Statement.{statement}
@@ -45,7 +44,7 @@ took : (c : tie.After-enum-told) → (let a = c .before .before .before .before 
 took c = order-takes _ _ _ _ _ (step-accepts (verdict-is (c .before .before)) (c .enum-told .given .1))
 
 holds : (c : tie.After-enum-told) → Holds (c .before .before .before .before .by-head .result .card) (now (c .before .before .before .before .before .before .args .card))
-holds c = held (c .before .before .before .before .by-head .ensures) (took c .own)
+holds c = accepted-holds (c .before .before .before .before .by-head .ensures) (took c .own)
 
 -- both lists have a place for each knot
 room : (c : tie.After-enum-told)
@@ -70,8 +69,7 @@ unfolding quintic
 anew-requires c κs =
     let t = c .before .before in
     let h = holds t in
-    let few = good quintic _ (accepted-card quintic quintic-head _ (took t .own)) .few in
-    ((h .full, omega (arith, few, knots-held h)), (length-take-le _ _ (room t .0), length-take-le _ _ (room t .1)))
+    ((h .full, omega (arith, accepted-count _ (took t .own) .some, knots-held h)), (length-take-le _ _ (room t .0), length-take-le _ _ (room t .1)))
 
 returns : tie.Need-returns
 returns c = refits-refused _ _ _ (step-refused (verdict-is (c .before .before .before)) (c .before .number .given .1))
