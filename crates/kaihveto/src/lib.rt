@@ -9,7 +9,10 @@ ghost use Rattle.knots.specs.Lent.{lent};
 ghost use Rattle.log.specs.Answers.{answered};
 ghost use Rattle.fit.specs.Fit.{fit, fit-codes};
 ghost use Rattle.fit.specs.Promise.{Fits};
+ghost use Rattle.slope_fit.specs.SlopesFit.{slopes-fit};
+ghost use Rattle.curve.specs.Kind.{quintic, sloped};
 ghost use Rattle.card_bytes.specs.Held.{card-of};
+ghost use Rattle.card_bytes.specs.Records.{kind-by};
 ghost use Rattle.card.specs.Answers.{own, checked, read-off};
 ghost use Rattle.card.specs.Promise.{lists, Reads};
 ghost use Rattle.table.specs.Promise.{columns, Tables};
@@ -26,14 +29,14 @@ ghost use Rattle.kaihveto.specs.Types.{Minutes, Room};
 ghost use Rattle.kaihveto.specs.Version.{version};
 
 // The boundary's version, as include/kaihveto.h names it.
-const MAJOR: u32 = 5;
+const MAJOR: u32 = 6;
 
-const MINOR: u32 = 2;
+const MINOR: u32 = 0;
 
 // The version in one number, so that a program can see that the library and the header which it was compiled with belong together.
 #[no_mangle]
 pub extern "C" fn kaihveto_version() -> u32
-    ensures { λ r. ⌜ r ≡ version 5 2 ⌝ }
+    ensures { λ r. ⌜ r ≡ version 6 0 ⌝ }
 {
     65536 * MAJOR + MINOR
 }
@@ -97,6 +100,23 @@ pub extern "C" fn kaihveto_fit_ends(
     )
 }
 
+// The curvatures of the curve through the knots with these slopes, in card units: 3, 1, 2; per knot 4, 5, 6; 9
+// for the slopes; 8; 9; 10.
+#[no_mangle]
+pub extern "C" fn kaihveto_fit_slopes(
+    minutes: &[u16],
+    ordinates: &[i16],
+    slopes: &[i32],
+    curvatures: &mut [i32],
+) -> fit::Fitted
+    ensures { λ r. ⌜
+        Fits
+        (slopes-fit (now (minutes .entry)) (now (ordinates .entry)) (now (slopes .entry)) (length (now (curvatures .entry))))
+        (now (slopes .entry)) (now (curvatures .entry)) (now (slopes .entry)) (now (curvatures .exit)) r ⌝ }
+{
+    slope_fit::fit(minutes, ordinates, slopes, curvatures)
+}
+
 // A card's bytes, at the front of the buffer: 3, 1, 2, 15; per knot 4, 5, 6; 9; 10; 26.
 #[no_mangle]
 pub extern "C" fn kaihveto_write(
@@ -109,7 +129,7 @@ pub extern "C" fn kaihveto_write(
     buffer: &mut [u8],
 ) -> writer::Written
     ensures { λ r. ⌜
-        Writes
+        Writes quintic
         (lent (now (minutes .entry)) (now (ordinates .entry)) (now (slopes .entry)) (now (curvatures .entry)) left right)
         (now (buffer .entry)) (now (buffer .exit)) r ⌝ }
     ensures typed { λ r. ⌜ Minutes (now (minutes .entry)) ⌝ }
@@ -117,10 +137,28 @@ pub extern "C" fn kaihveto_write(
     writer::write(minutes, ordinates, slopes, curvatures, left, right, buffer)
 }
 
+// The same of a card whose slopes were given, which has no codes: 3, 1, 2; per knot 4, 5, 6; 9; 10; 26.
+#[no_mangle]
+pub extern "C" fn kaihveto_write_slopes(
+    minutes: &[u16],
+    ordinates: &[i16],
+    slopes: &[i32],
+    curvatures: &[i32],
+    buffer: &mut [u8],
+) -> writer::Written
+    ensures { λ r. ⌜
+        Writes sloped
+        (lent (now (minutes .entry)) (now (ordinates .entry)) (now (slopes .entry)) (now (curvatures .entry)) 0 0)
+        (now (buffer .entry)) (now (buffer .exit)) r ⌝ }
+    ensures typed { λ r. ⌜ Minutes (now (minutes .entry)) ⌝ }
+{
+    writer::write_slopes(minutes, ordinates, slopes, curvatures, buffer)
+}
+
 // The test of a card's bytes: head 14; 1, 2; 15; the other records 14; per knot 4, 5, 6; 9; 10.
 #[no_mangle]
 pub extern "C" fn kaihveto_check(card: &[u8]) -> card::Checked
-    ensures { λ r. ⌜ r ≡ checked (own (now (card .entry))) (card-of (now (card .entry))) ⌝ }
+    ensures { λ r. ⌜ r ≡ checked (own (now (card .entry))) (kind-by (now (card .entry))) (card-of (now (card .entry))) ⌝ }
     ensures typed { λ r. ⌜ Bytes (now (card .entry)) ⌝ }
 {
     card::check(card)
