@@ -1,5 +1,5 @@
-// A book of the rooms' cards: made, listed, and a room's card found in it or put into it. Argument 3 is the book's
-// file, argument 4 the room, argument 5 the card's file, arguments 6 and 7 what is cared for.
+// A book of the rooms' cards: made, listed, and a room's card found in it or put into it. Argument 3 is the
+// book's file, argument 4 the room, argument 5 the card's file, arguments 6 and 7 what is cared for.
 use crate::arguments::Asked;
 use crate::line::Line;
 use crate::swings::Care;
@@ -171,7 +171,8 @@ fn tell_put(file: &[u8], room: u16, replaced: bool, card: Card, bytes: u32) -> u
     in_use(line, bytes).print(file)
 }
 
-// The file is made anew with the bytes in use; the buffer has room for every book, so that 21 is only ever said of the limit.
+// The file is made anew with the bytes in use; the buffer has room for every book, so that 21 is only ever
+// said of the limit.
 fn put_sound(
     file: &[u8],
     book: &mut [u8],
@@ -215,7 +216,8 @@ fn put_judged(
     }
 }
 
-// A card by its name and its bytes. The book is judged by its file's own bytes: the zeros behind them in the buffer could end a record that is cut short.
+// A card by its name and its bytes. The book is judged by its file's own bytes: the zeros behind them in the
+// buffer could end a record that is cut short.
 pub(crate) fn put(name: &[u8], card: &[u8], room: u16, care: Care) -> u8 {
     let mut file = io::buffer();
     let n = os::arg(3, &mut file);

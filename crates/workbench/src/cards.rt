@@ -1,10 +1,12 @@
-// What is done with a card, a file's or a room's in a book: list, check, at, table, points, and put into a book.
+// What is done with a card, a file's or a room's in a book: list, check, at, table, points, and put into a
+// book.
 use crate::arguments::Asked;
 use crate::rooms::Told;
 use crate::swings::Care;
 use crate::swings::Cared;
 use answer::Judged;
 use decode::Card;
+use knots::Kind;
 use opened::Opened;
 
 // What is asked; `At` of how many arguments there are, `Table` every how many minutes, `Put` for which room.
@@ -71,10 +73,10 @@ fn at(name: &[u8], bytes: &[u8], count: usize) -> u8 {
     status
 }
 
-fn sound(name: &[u8], bytes: &[u8], card: Card, job: Job) -> u8 {
+fn sound(name: &[u8], bytes: &[u8], kind: Kind, card: Card, job: Job) -> u8 {
     let minutes = card.minutes;
     match job {
-        Job::Check(care) => crate::checks::report(name, bytes, card, care),
+        Job::Check(care) => crate::checks::report(name, bytes, kind, card, care),
         Job::Table(every) => crate::tables::print(bytes, minutes[0], every),
         Job::Points => {
             let listed = list(name, bytes);
@@ -87,10 +89,11 @@ fn sound(name: &[u8], bytes: &[u8], card: Card, job: Job) -> u8 {
 fn opened(name: &[u8], bytes: &[u8], job: Job) -> u8 {
     let opened = Opened::by_head(bytes);
     let verdict = opened.verdict;
+    let kind = opened.kind;
     let card = opened.card;
     match verdict {
         Judged::Refused(number, place) => crate::tell::refused(name, number, place),
-        Judged::Accepted => sound(name, bytes, card, job),
+        Judged::Accepted => sound(name, bytes, kind, card, job),
     }
 }
 

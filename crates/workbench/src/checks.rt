@@ -1,5 +1,5 @@
-// The report on a card: how far its curve goes, where it leaves 0 to 100 % or goes far beyond its knots, and which
-// of its numbers a fresh fit of its knots does not give.
+// The report on a card: how far its curve goes, where it leaves 0 to 100 % or goes far beyond its knots, and
+// which of its numbers a fresh fit of its knots does not give.
 use crate::line::Line;
 use crate::swings::Care;
 use crate::tables::Readings;
@@ -92,12 +92,22 @@ pub(crate) fn reach(line: Line, card: Card) -> Line {
         .count(last_minute(card) as u64)
 }
 
-// `room3.card: ok, 18 knots, minute 0 to 1020, lowest -463 at 388, highest 10216 at 131, beyond its knots by 463
-// at 388`.
-fn summary(name: &[u8], card: Card, found: Span, furthest: Swung) -> u8 {
+// `kind 6 with given slopes`.
+fn kind_in_words(line: Line, kind: Kind) -> Line {
+    let said = line.words(b"kind ").count(kind.head as u64);
+    if kind.fourth {
+        return said;
+    }
+    said.words(b" with given slopes")
+}
+
+// `room3.card: ok, kind 1, 18 knots, minute 0 to 1020, lowest -463 at 388, highest 10216 at 131, beyond its
+// knots by 463 at 388`.
+fn summary(name: &[u8], kind: Kind, card: Card, found: Span, furthest: Swung) -> u8 {
     let lowest = found.lowest;
     let highest = found.highest;
-    let low = reach(Line::new().words(b": ok, "), card)
+    let told = kind_in_words(Line::new().words(b": ok, "), kind).words(b", ");
+    let low = reach(told, card)
         .words(b", lowest ")
         .number(lowest.value)
         .words(b" at ")
@@ -268,12 +278,12 @@ fn warn(name: &[u8], bytes: &[u8], readings: Readings, furthest: Swung, care: Ca
 }
 
 // Of a card that is accepted.
-pub(crate) fn report(name: &[u8], bytes: &[u8], card: Card, care: Care) -> u8 {
+pub(crate) fn report(name: &[u8], bytes: &[u8], kind: Kind, card: Card, care: Care) -> u8 {
     let minutes = card.minutes;
     let readings = Readings::of(bytes, minutes[0]);
     let found = extremes(readings);
     let furthest = swing::swing(bytes);
-    let said = summary(name, card, found, furthest);
+    let said = summary(name, kind, card, found, furthest);
     let warned = warn(name, bytes, readings, furthest, care);
     let noted = notes(name, bytes, card);
     crate::tell::graver(

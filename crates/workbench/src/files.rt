@@ -115,7 +115,8 @@ fn too_long() -> u8 {
     crate::tell::FAILED
 }
 
-// Bytes as a file, or to standard output. No file has an empty name: one that does not fit into its buffer comes here as such.
+// Bytes as a file, or to standard output. No file has an empty name: one that does not fit into its buffer
+// comes here as such.
 pub(crate) fn save(path: &[u8], bytes: &[u8]) -> u8 {
     if is_dash(path) {
         return crate::tell::print(bytes);
@@ -128,7 +129,8 @@ pub(crate) fn save(path: &[u8], bytes: &[u8]) -> u8 {
     save_by(path, crate::tell::front(&name, n), bytes)
 }
 
-// Bytes as a file where there is none: the name itself is made, which fails where it is taken, and renaming it to itself changes nothing.
+// Bytes as a file where there is none: the name itself is made, which fails where it is taken, and renaming
+// it to itself changes nothing.
 pub(crate) fn make(path: &[u8], bytes: &[u8]) -> u8 {
     if path.len() == 0 {
         return too_long();

@@ -1,4 +1,5 @@
-// A line that is put together before it is printed, so that it is written at once. What does not fit is left out; no line here comes near.
+// A line that is put together before it is printed, so that it is written at once. What does not fit is left
+// out; no line here comes near.
 pub(crate) struct Line {
     bytes: [u8; Line::ROOM],
     length: usize,

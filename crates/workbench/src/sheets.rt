@@ -1,4 +1,5 @@
-// The text of a sheet, with the logs that it names: fitted, or mended and then fitted, and listed, and its card made a file.
+// The text of a sheet, with the logs that it names: fitted, or mended and then fitted, and listed, and its
+// card made a file.
 use crate::swings::Care;
 use crate::swings::Cared;
 use mend::Plan;
@@ -19,8 +20,8 @@ struct Wish {
 }
 
 // A refusal is told behind the sheet's name. The warnings come first, since one of them may be a refusal, and
-// then the card, so that a listing is seen only where all is done; where no card is asked for, its name counts
-// for nothing.
+// then the card, so that a listing is seen only where all is done; where no card is asked for, its name
+// counts for nothing.
 fn saved(
     file: &[u8],
     wish: Wish,

@@ -1,4 +1,5 @@
-// The logs that a sheet names, read from their files into the slots in which `reply` looks for them. A name is taken from the sheet's own folder, so that a folder with a sheet and its logs can be carried about.
+// The logs that a sheet names, read from their files into the slots in which `reply` looks for them. A name
+// is taken from the sheet's own folder, so that a folder with a sheet and its logs can be carried about.
 use reply::SLOT;
 use text::Sheet;
 ghost use mathlib.Core.Path.{_≡_};
@@ -76,7 +77,8 @@ fn load_knot(is_log: bool, file: &[u8], text: &[u8], line: u32, logs: &mut [u8],
     load_log(file, line, text::log_name(text, line), logs, at)
 }
 
-// Whether all could be read, in the order of the lines; the first that could not is told. A sheet with anything wrong has no log.
+// Whether all could be read, in the order of the lines; the first that could not is told. A sheet with
+// anything wrong has no log.
 pub(crate) fn load(file: &[u8], text: &[u8], sheet: Sheet, logs: &mut [u8]) -> bool
     requires { ⌜ length (now logs) ≡ 4096 ⌝ }
 {

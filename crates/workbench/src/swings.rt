@@ -1,6 +1,6 @@
 // Warnings of swings: the gaps of a card in which its curve goes further beyond the gap's two knots than a
-// bound. How far it goes is what `swing` promises. A report on a card says them on standard output; where a card
-// is made or put in they stand beside that, on standard error.
+// bound. How far it goes is what `swing` promises. A report on a card says them on standard output; where a
+// card is made or put in they stand beside that, on standard error.
 use crate::arguments::Asked;
 use crate::line::Line;
 use answer::Judged;
@@ -18,8 +18,8 @@ ghost use Rattle.decode.specs.Decoded.{decoded, Full};
 
 // ---- what is cared for
 
-// By how many hundredths a curve may go beyond its knots before it is warned of, and whether one that is warned
-// of is refused.
+// By how many hundredths a curve may go beyond its knots before it is warned of, and whether one that is
+// warned of is refused.
 pub(crate) struct Care {
     bound: u32,
     strict: bool,
@@ -244,8 +244,8 @@ pub(crate) fn report(name: &[u8], bytes: &[u8], furthest: Swung, care: Care) -> 
     crate::tell::graver(said, care.status(true))
 }
 
-// Where a card is made or put in: beside it, before anything is written; what is told of a curve that is refused
-// for it stands behind.
+// Where a card is made or put in: beside it, before anything is written; what is told of a curve that is
+// refused for it stands behind.
 pub(crate) fn allow(name: &[u8], lines: [u32; Sheet::MOST], bytes: &[u8], care: Care) -> u8 {
     if !care.warns(swing::swing(bytes)) {
         return crate::tell::DONE;
