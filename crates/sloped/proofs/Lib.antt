@@ -1,3 +1,4 @@
 pub mod Row
 pub mod Sloped
+pub mod Ends
 pub mod Cases

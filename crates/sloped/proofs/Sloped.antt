@@ -234,6 +234,10 @@ module _ (card : Card) where
         fits : pos (natAbs (jump third a b f)) ≤ℤ allowed sloped third a b f
         fits = leZ-true (small (sloped .asks (spot card i) third) (asked sheet i) _ (or-false _ _ (refuse-accepts 10 i _ (good sloped card ok .smoothed i l)) .0))
 
+    pub small-jump : (i : ℕ) → i < n → natAbs (jump third (knot card (back i)) (knot card i) (knot card (on card i))) ≤ 4 * (g₁ i + p₁ i)
+    unfolding jump over rise degree
+    small-jump i l = held i l
+
     -- the jump is the left side of what the curvatures are off
     module _ (e : Exact sloped card) where
       off : ℕ → ℤ
