@@ -1,6 +1,7 @@
--- Equations 3(p+g)·x − p·x⁻ − g·x⁺ = r at the places 0 to n − 1, where x⁻ and x⁺ are the neighbours' numbers and a missing neighbour is the place itself.
--- Where p + g is never 0: what bounds the left sides bounds x, by the place where x is greatest; so left sides zero leave only zeros, and every right sides
--- have a solution. Assumes nothing.
+-- Equations 3(p+g)·x − p·x⁻ − g·x⁺ = r at the places 0 to n − 1, where x⁻ and x⁺ are the neighbours' numbers
+-- and a missing neighbour is the place itself. Where p + g is never 0: what bounds the left sides bounds x,
+-- by the place where x is greatest; so left sides zero leave only zeros, and every right sides have a
+-- solution. Assumes nothing.
 use mathlib.Core.Path.{_≡_, refl, ap, _∙_}
 use mathlib.Core.List.{[], _∷_}
 use Prim.Native.Nat.{ℕ, zero, suc, _+_, _-_, _*_, min, _≤_, _<_}

@@ -1,5 +1,5 @@
--- Document 01, "The equations": "the exact solution is unique": two solutions of a card, of either kind, are the same fractions.
--- Compared by cross multiplication. Assumes nothing.
+-- Document 01, "The equations": "the exact solution is unique": two solutions of a card, of either kind, are
+-- the same fractions. Compared by cross multiplication. Assumes nothing.
 use mathlib.Core.Path.{_≡_}
 use Prim.Native.Nat.{ℕ}
 use Rattle.whole.specs.Whole.{_·_}

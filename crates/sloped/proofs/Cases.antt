@@ -1,5 +1,5 @@
--- Document 02, order 8, by computation: cards judged as kind 1 and as kind 6, on each side of kind 6's own limits; and 2 card units are attained.
--- Assumes nothing.
+-- Document 02, order 8, by computation: cards judged as kind 1 and as kind 6, on each side of kind 6's own
+-- limits; and 2 card units are attained. Assumes nothing.
 use mathlib.Core.Path.{_≡_, refl, sym, ap, _∙_}
 use mathlib.Core.Bool.{Bool, true, false}
 use mathlib.Core.List.{List, [], _∷_, map}
@@ -43,7 +43,7 @@ narrow = 0 ∷ 1 ∷ 2 ∷ []
 abbrev wide : List ℕ
 wide = 0 ∷ sloped .widest-gap ∷ (sloped .widest-gap + sloped .widest-gap) ∷ []
 
--- of each, and of both
+-- one of each
 abbrev pub uneven : List ℕ
 uneven = 0 ∷ 1 ∷ suc (sloped .widest-gap) ∷ []
 
@@ -87,7 +87,7 @@ pub record Case : Type 0 where
 abbrev case : Card → Verdict → Verdict → Case
 case c one six = record { card = c; as-1 = one; as-6 = six }
 
--- a card whose third derivative does not jump, but whose fourth does: at both ends, and at the inner knot alone
+-- the third derivative jumps by less than the allowance, the fourth by more: at both ends; at the inner knot
 unfoldable pub fourth-at-ends : Card
 fourth-at-ends = three (0 ∷ 8 ∷ 16 ∷ []) (pos 0 ∷ pos 100 ∷ pos 0 ∷ []) zeros (pos 32_000 ∷ minus 32_000 ∷ pos 32_000 ∷ [])
 
@@ -151,7 +151,7 @@ cases =
     ∷ []
 
 pub as-kind-6 : map (λ c. verdict sloped (c .card)) cases ≡ map (λ c. c .as-6) cases
-unfolding cases three bent fourth-at-ends fourth-inside table-3 beyond _then_ refuse each power worth amount degree rightward leftward
+unfolding cases three bent fourth-at-ends fourth-inside table-3 beyond _then_ refuse each power worth amount degree rightward leftward allowance
     quintic quintic-asks sloped sloped-asks sloped-allowance knots knot back on gap spot joint inverse clear over rise jump allowed jumps
     slope-beyond curvature-beyond lengths counted codes stands in-range smooth numbers-sound sound verdict
 as-kind-6 = refl
@@ -180,7 +180,7 @@ unfoldable pub twos : Card
 twos = bent uneven (pos 2 ∷ pos 2 ∷ pos 2 ∷ [])
 
 pub twos-accepted : verdict sloped twos ≡ accepted
-unfolding twos three bent beyond _then_ refuse each power worth amount degree rightward leftward
+unfolding twos three bent beyond _then_ refuse each power worth amount degree rightward leftward allowance
     quintic quintic-asks sloped sloped-asks sloped-allowance knots knot back on gap spot joint inverse clear over rise jump allowed jumps
     slope-beyond curvature-beyond lengths counted codes stands in-range smooth numbers-sound sound verdict
 twos-accepted = refl

@@ -1,21 +1,22 @@
--- Document 02, order 8: an accepted card's third derivative at either end, "with allowance 4g per side, at both ends too". The missing gap is the gap 0, and the
--- jump over it is the one side that there is. Assumes nothing.
+-- Document 02, order 8: an accepted card's third derivative at either end, "with allowance 4g per side, at
+-- both ends too". The missing gap is the gap 0, and the jump over it is the one side that there is. Assumes
+-- nothing.
 use mathlib.Core.Path.{_≡_, refl, sym, ap, ap₂, _∙_, subst}
 use mathlib.Core.List.{[], _∷_}
 use Prim.Native.Nat.{ℕ, zero, suc, _+_, _-_, _*_, _^_, min, _≤_, _<_}
-use native.Mathlib.Nat.{sub-self, mul-assoc, mul-comm, mul-one, one-mul, zero-mul, pow-suc, one-le-pow, mul-le-mul-right, le-of-mul-le-mul-right}
+use native.Mathlib.Nat.{sub-self, mul-assoc, mul-comm, mul-one, zero-mul, pow-suc, one-le-pow, mul-le-mul-right, le-of-mul-le-mul-right}
 use native.Mathlib.Omega.{arith}
 use lib.IntN.{ℤ, pos, natAbs, negℤ, _-ℤ_, _*ℤ_}
 use Rattle.whole.specs.Whole.{_·_}
 use Rattle.whole.proofs.Solve.{_:-_, _:*_, :neg, #, ring}
 use Rattle.whole.proofs.Order.{abs-mul, abs-neg}
 use Rattle.answer.specs.Answer.{accepted}
-use Rattle.curve.specs.Formula.{worth, ∂^, amount}
+use Rattle.curve.specs.Formula.{worth, amount}
 use Rattle.curve.specs.Curve.{third, degree, rightward, leftward}
 use Rattle.curve.specs.Kind.{quintic, sloped}
 use Rattle.curve.specs.Card.{Card, Knot, knots, knot, gap, back, on}
 use Rattle.curve.specs.Jump.{inverse, clear, over, rise, jump}
-use Rattle.curve.specs.Reading.{between, denominator}
+use Rattle.curve.specs.Reading.{denominator}
 use Rattle.curve.specs.Orders.{verdict}
 use Rattle.curve.specs.Demand.{exact, share}
 use Rattle.curve.proofs.Written.{amountE, rising, rights, lefts}
@@ -23,7 +24,7 @@ use Rattle.curve.proofs.Sides.{right-side, left-side, jump-apart}
 use Rattle.curve.proofs.Derivatives.{rightward-is, leftward-is}
 use Rattle.curve.proofs.Accepted.{Good, good, gap-wide}
 use Rattle.sloped.specs.Sloped.{AtMostFour, FlatEnds}
-use Rattle.sloped.proofs.Sloped.{small-jump}
+use Rattle.sloped.proofs.Sloped.{jump-within-4g}
 
 -- over the gap 0 there is nothing
 none-left : (a : Knot) → left-side third a a ≡ pos 0
@@ -107,7 +108,7 @@ flat-ends card ok = record { first = first; last = last }
         ≤ 4 * (inverse (gap (knot card i) (knot card k)) 3 1 * clear (gap (knot card j) (knot card i)) 3 + inverse (gap (knot card j) (knot card i)) 3 1 * clear (gap (knot card i) (knot card k)) 3)
 
     first : AtMostFour (knot card 0) (knot card 1) 0
-    first = at-first (knot card 0) (knot card 1) (gap-wide g 0 (omega (arith, g .few))) (subst (λ k. Small 0 0 k) next (small-jump card ok 0 (omega (arith, g .few))))
+    first = at-first (knot card 0) (knot card 1) (gap-wide g 0 (omega (arith, g .few))) (subst (λ k. Small 0 0 k) next (jump-within-4g card ok 0 (omega (arith, g .few))))
       where
         next : min 1 (knots card - 1) ≡ 1
         next = omega (arith, g .few)
@@ -129,4 +130,4 @@ flat-ends card ok = record { first = first; last = last }
 
     last : AtMostFour (knot card (knots card - 2)) (knot card i) (gap (knot card (knots card - 2)) (knot card i))
     last = at-last (knot card (knots card - 2)) (knot card i) wide
-        (subst (λ j. Small j i i) before (subst (λ k. Small (i - 1) i k) beyond (small-jump card ok i (omega (arith, g .few)))))
+        (subst (λ j. Small j i i) before (subst (λ k. Small (i - 1) i k) beyond (jump-within-4g card ok i (omega (arith, g .few)))))

@@ -1,6 +1,7 @@
--- The third derivative's equation with its slopes given: what is left of it for the curvatures, and the jump as what it wants. Assumes nothing.
+-- The third derivative's equation with its slopes given: what is left of it for the curvatures, and the jump
+-- as what it wants. Assumes nothing.
 use mathlib.Core.Path.{_≡_}
-use mathlib.Core.List.{List, [], _∷_}
+use mathlib.Core.List.{[], _∷_}
 use Prim.Native.Nat.{ℕ}
 use lib.IntN.{ℤ, pos, _+ℤ_, _-ℤ_}
 use Rattle.whole.specs.Whole.{_·_}

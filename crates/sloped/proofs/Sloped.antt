@@ -1,13 +1,14 @@
--- Document 02, order 8: there is one exact solution of a card whose slopes are given, and every stored curvature of an accepted card is at most 2 card
--- units from it. The equations are dominant's, for what the curvatures are off. No gap's limit is used. Assumes nothing.
-use mathlib.Core.Path.{_≡_, refl, sym, ap, ap₂, _∙_, subst}
+-- Document 02, order 8: there is one exact solution of a card whose slopes are given, and every stored
+-- curvature of an accepted card is at most 2 card units from it. The equations are dominant's, for what the
+-- curvatures are off. No gap's limit is used. Assumes nothing.
+use mathlib.Core.Path.{_≡_, sym, ap, _∙_, subst}
 use mathlib.Core.Bool.{Bool, true, false, not, _&&_, cond}
 use mathlib.Core.List.{[], _∷_}
 use Prim.Native.Nat.{ℕ, zero, suc, _+_, _-_, _*_, _≤_, _<_}
 use native.Mathlib.Nat.{one-le-pow, mul-pos, lt-of-not-le, mul-le-mul-left}
 use native.Mathlib.Decide.{decLe}
 use native.Mathlib.Omega.{arith}
-use lib.IntN.{ℤ, pos, natAbs, _+ℤ_, _-ℤ_, _*ℤ_, +ℤ-invr}
+use lib.IntN.{ℤ, pos, natAbs, _+ℤ_, _-ℤ_, +ℤ-invr}
 use lib.Dec.{T, ltb, eqb, lit<, lit≤}
 use lib.Signed.{_≤ℤ_}
 use borrow.Author.Tests.{ltb-false, not-false}
@@ -26,7 +27,7 @@ use Rattle.curve.specs.Steps.{codes, smooth}
 use Rattle.curve.specs.Orders.{verdict}
 use Rattle.curve.specs.Exact.{Meets, Exact}
 use Rattle.curve.proofs.Written.{rising, jumping, equating, equalling}
-use Rattle.curve.proofs.Accepted.{good, or-false, true-and-false}
+use Rattle.curve.proofs.Accepted.{good, or-false}
 use Rattle.curve.proofs.NeverTen.{sloped-enough}
 use Rattle.unique.proofs.Linear.{left-linear, right-linear, differ}
 use Rattle.unique.proofs.Balance.{clear-pos}
@@ -223,10 +224,6 @@ module _ (card : Card) where
         f : Knot
         f = knot card (on card i)
 
-        is-true : (b : Bool) → T b → b ≡ true
-        is-true true t = refl
-        is-true false t = absurd t
-
         small : (ask : Bool) → T ask → (b : Bool) → ask && not b ≡ false → b ≡ true
         small true t b e = not-false b e
         small false t b e = absurd t
@@ -234,9 +231,9 @@ module _ (card : Card) where
         fits : pos (natAbs (jump third a b f)) ≤ℤ allowed sloped third a b f
         fits = leZ-true (small (sloped .asks (spot card i) third) (asked sheet i) _ (or-false _ _ (refuse-accepts 10 i _ (good sloped card ok .smoothed i l)) .0))
 
-    pub small-jump : (i : ℕ) → i < n → natAbs (jump third (knot card (back i)) (knot card i) (knot card (on card i))) ≤ 4 * (g₁ i + p₁ i)
+    pub jump-within-4g : (i : ℕ) → i < n → natAbs (jump third (knot card (back i)) (knot card i) (knot card (on card i))) ≤ 4 * (g₁ i + p₁ i)
     unfolding jump over rise degree
-    small-jump i l = held i l
+    jump-within-4g i l = held i l
 
     -- the jump is the left side of what the curvatures are off
     module _ (e : Exact sloped card) where
