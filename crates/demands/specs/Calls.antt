@@ -22,7 +22,7 @@ use Rattle.mend.specs.declared.Change.{Change}
 use Rattle.mend.specs.Order as Order
 use Rattle.card_bytes.specs.Held.{card-of}
 use Rattle.card.specs.Promise.{Lists, lists}
-use Rattle.refit.specs.Fresh.{hundredths}
+use Rattle.lines.specs.Lines.{hundredths}
 use Rattle.table.specs.Promise.{Columns, columns}
 use Rattle.kaihveto.proofs.kaihveto_mean.Reads as mean
 use Rattle.kaihveto.proofs.kaihveto_fit.Reads as fit

@@ -1,5 +1,5 @@
--- The line of a knot is the third-derivative row of `coefficients` with the products of the slopes moved to its right side: in binary64 by its coefficients, and in whole numbers
--- as an equation. Assumes nothing.
+-- The line of a knot is the third-derivative row of `coefficients` with the products of the slopes moved to its right
+-- side: in binary64 by its coefficients, and in whole numbers as an equation. Assumes nothing.
 use Prim.Native.Nat.{ℕ}
 use mathlib.Core.Path.{_≡_, refl}
 use mathlib.Core.List.{[], _∷_}
@@ -16,7 +16,8 @@ use Rattle.lines.specs.Lines.{Equation, equation, line, line-of}
 
 -- ---- in whole numbers
 
--- a knot with the powers p and the rise E of the gap on its left, g and D on its right; the pairs of the knot before, its own, and of the next knot
+-- a knot with the powers p and the rise E of the gap on its left, g and D on its right; the pairs of the knot before,
+-- its own, and of the next knot
 module _ {X : Type 0} (arithmetic : Arithmetic X) (p : ℕ → X) (E : X) (g : ℕ → X) (D s⁻ c⁻ s c s⁺ c⁺ : X) where
   open Arithmetic arithmetic using (_⊕_, _⊖_, _⊗_)
 
@@ -40,7 +41,7 @@ line-is-third-row p E g D s⁻ c⁻ s c s⁺ c⁺ =
 
 -- ---- in binary64
 
--- the row's coefficients; 8·p2, with which L has the slope before in its other row, is subtracted where L has its negative
+-- 8·p2, which L has in its other row, is subtracted where the third-derivative row adds its negative
 pub coefficients-are : (p g : Gap) (before here after : Float)
     → let x : Rows Float = rows floats (at (p .powers)) (p .rise) (at (g .powers)) (g .rise) in
     line p g before here after

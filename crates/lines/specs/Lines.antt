@@ -1,5 +1,6 @@
--- Document 02, order 8, "Values with measured slopes": a knot's one equation, the third-derivative row with the given slopes moved to the right side, over any numbers and in
--- binary64; and its elimination, "document 01's with one number per knot". Assumes nothing.
+-- Document 02, order 8, "Values with measured slopes": a knot's one equation, the third-derivative row with the given
+-- slopes moved to the right side, over any numbers and in binary64; and its elimination, "document 01's with one number
+-- per knot". Assumes nothing.
 use Prim.Native.Nat.{ℕ}
 use mathlib.Core.Path.{_≡_, refl}
 use mathlib.Core.Bool.{Bool, cond}
@@ -26,7 +27,7 @@ pub is-units : f4096 ≡ ofInt binary64 (pos 4096)
 unfolding ofBits ofInt
 is-units = refl
 
--- "each slope becomes the float m/4096"; so does a curvature that is given for an end: hundredths per minute (squared)
+-- "each slope becomes the float m/4096": hundredths per minute (squared, for a curvature)
 abbrev pub hundredths : ℤ → Float
 hundredths z = ofInt binary64 z ⊘ f4096
 
@@ -72,7 +73,7 @@ reduced own l before first = cond first own (own ⊖ l ⊗ before)
 abbrev pub single : (h p : Float) → State
 single h p = record { h = block f0 f0 f0 h; p = pair f0 p }
 
--- "S standing for the determinant, and solving is one division by S"; H not at the last knot, where zero stands for it
+-- "S standing for the determinant, and solving is one division by S"; zero stands for H at the last knot
 unfoldable pub line-solved : (s t r : Float) → Bool → Step
 line-solved s t r last = judged s (single (cond last f0 (r ⊘ s)) (t ⊘ s))
 

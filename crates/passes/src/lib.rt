@@ -1,6 +1,7 @@
 // The two passes of the fit's elimination over a sheet of knots, forward and back, after document 01's "The elimination,
-// rounded once per operation" and document 02's "Values with measured slopes": they give each knot's slope and curvature, or number 8 at the knot where it is first
-// met. Where the slopes are given, the curvatures alone are solved for, and zeros stand for the slopes.
+// rounded once per operation" and document 02's "Values with measured slopes": they give each knot's slope and
+// curvature, or number 8 at the knot where it is first met. Where the slopes are given, the curvatures alone are
+// solved for, and zeros stand for the slopes.
 ghost use mathlib.Core.Path.{_≡_};
 ghost use Prim.Native.Nat.{_+_, _≤_, _<_};
 ghost use lib.IntN.{pos};
@@ -114,13 +115,10 @@ fn line_knot(slopes: &[i32], p: Gap, g: Gap, before: State, i: usize) -> Step
     requires { ⌜ (i < length (now slopes)) × (length (now slopes) ≤ most) ⌝ }
     ensures { λ r. ⌜ r ≡ line-between (now (slopes .entry)) p g before i ⌝ }
 {
-    let line = lines::line_of(
-        p,
-        g,
-        slope_before(slopes, i),
-        slope_of(slopes, i),
-        slope_after(slopes, i),
-    );
+    let left = slope_before(slopes, i);
+    let here = slope_of(slopes, i);
+    let right = slope_after(slopes, i);
+    let line = lines::line_of(p, g, left, here, right);
     lines::eliminate(line, before, i == 0, i + 1 == slopes.len())
 }
 
@@ -228,7 +226,8 @@ fn back_pass(job: Job, states: [State; MOST], n: usize) -> Solved
     }
 }
 
-// The slope and the curvature of each knot, in hundredths per minute (squared): forward, then back. The slopes count only where they are given.
+// The slope and the curvature of each knot, in hundredths per minute (squared): forward, then back. The slopes
+// are read only where they are what is given.
 pub fn pairs_of(minutes: &[u16], ordinates: &[i16], slopes: &[i32], job: Job) -> Solved
     requires { ⌜ (length (now minutes) ≤ most) × (length (now ordinates) ≡ length (now minutes)) × (length (now slopes) ≡ length (now minutes)) ⌝ }
     requires { ⌜ Rising (now minutes) ⌝ }

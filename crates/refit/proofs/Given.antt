@@ -12,7 +12,8 @@ use mir.Val.{SFits, toZ, ofZ}
 use mir.ValLaws.{toZ-ofZ}
 use Rattle.curve.specs.Card.{Card, knots, knot}
 use Rattle.fit.specs.Fit.{fit-codes}
-use Rattle.refit.specs.Fresh.{hundredths, fresh}
+use Rattle.lines.specs.Lines.{hundredths}
+use Rattle.refit.specs.Fresh.{fresh}
 
 -- a number of an array, at a place of its front
 pub given-at : (l : List ℤ) {n i : ℕ} {r : Float} → i < n → SFits w32 (getD l i (pos 0)) → r ≡ hundredths (toZ w32 (ofZ w32 (getD l i (pos 0)))) → r ≡ hundredths (getD (take n l) i (pos 0))

@@ -26,7 +26,8 @@ use Rattle.rows.specs.Floats.{_⊘_}
 use Rattle.ends.specs.Ends.{unfit, unfit-end, end-by, ends}
 use Rattle.fit.specs.Fit.{standing, eliminated, tested, card-of}
 use Rattle.fit.proofs.Order.{in-groups}
-use Rattle.refit.specs.Fresh.{f4096, hundredths, fresh}
+use Rattle.lines.specs.Lines.{f4096, hundredths}
+use Rattle.refit.specs.Fresh.{fresh}
 
 -- ---- in binary64
 

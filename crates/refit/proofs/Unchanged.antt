@@ -18,7 +18,8 @@ use Rattle.fit.specs.Fit.{fit-between, fit-codes, fit}
 use Rattle.fit.proofs.AtRest.{starts-at-rest}
 use Rattle.card_bytes.specs.Held.{card-of}
 use Rattle.refit.specs.declared.Refitted.{Refitted}
-use Rattle.refit.specs.Fresh.{hundredths, fresh, refit}
+use Rattle.lines.specs.Lines.{hundredths}
+use Rattle.refit.specs.Fresh.{fresh, refit}
 use Rattle.refit.specs.Promise.{changed, refitted, Refits}
 use Rattle.refit.proofs.Given.{fresh-is}
 use Rattle.refit.proofs.Places.{none-of-itself, none-is-same}

@@ -1,32 +1,16 @@
 -- The fresh fit of a card: its own knots fitted anew between ends of its own codes, and the order of its refusals. Document 01, "The curve and its card",
 -- "Numbers of refusal". Assumes nothing.
 use Prim.Native.Nat.{ℕ, _-_}
-use mathlib.Core.Path.{_≡_, refl}
 use mathlib.Core.List.{List}
-use lib.IntN.{ℤ, pos}
-use lib.Ieee.{Float, binary64, ofBits, ofInt}
 use Rattle.answer.specs.Answer.{Answer, _then_}
 use Rattle.curve.specs.Card.{Card, knots, knot}
 use Rattle.curve.specs.Orders.{lists-order}
-use Rattle.rows.specs.Floats.{_⊘_}
+use Rattle.lines.specs.Lines.{hundredths}
 use Rattle.fit.specs.Fit.{fit-codes}
 use Rattle.card_bytes.specs.Held.{card-of}
 use Rattle.card.specs.Answers.{own}
 
--- how many card units a hundredth has
-abbrev pub f4096 : Float
-f4096 = ofBits binary64 0x40b0_0000_0000_0000
-
--- the pattern is that number
-pub is-units : f4096 ≡ ofInt binary64 (pos 4096)
-unfolding ofBits ofInt
-is-units = refl
-
--- a card's slope or curvature as a number given for an end: in hundredths per minute (squared)
-abbrev pub hundredths : ℤ → Float
-hundredths z = ofInt binary64 z ⊘ f4096
-
--- each end has the card's code, and is given the card's own numbers there
+-- each end has the card's code, and is given the card's own numbers there, in hundredths per minute (squared)
 unfoldable pub fresh : Card → Answer Card
 fresh c =
     let first = knot c 0 in

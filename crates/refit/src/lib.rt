@@ -2,6 +2,7 @@
 // test. The order of the tests is that of the reader, "Card into lent lists", and then the fit's own. Nothing is asked of the caller.
 use answer::Judged;
 use decode::Card;
+use lines::hundredths;
 use opened::Opened;
 ghost use mathlib.Core.Path.{_≡_};
 ghost use Prim.Native.Nat.{_<_, _≤_};
@@ -10,7 +11,7 @@ ghost use lib.IntN.{ℤ-discrete};
 ghost use Rattle.decode.specs.Decoded.{most, decoded, Full};
 ghost use Rattle.fit.specs.Promise.{Fits};
 ghost use Rattle.refit.specs.Differing.{differing};
-ghost use Rattle.refit.specs.Fresh.{hundredths, fresh};
+ghost use Rattle.refit.specs.Fresh.{fresh};
 ghost use Rattle.refit.specs.Promise.{changed, Refits, Renews};
 
 // Zeros behind a refusal.
@@ -20,13 +21,6 @@ pub struct Refitted {
     pub place: u32,
     pub knots: u32,
     pub changed: u32,
-}
-
-// A number of the card as one given for an end; both steps are exact.
-fn hundredths(number: i32) -> f64
-    ensures { λ r. ⌜ r ≡ hundredths number ⌝ }
-{
-    (number as f64) / 4096.0
 }
 
 // At how many places two lists differ.

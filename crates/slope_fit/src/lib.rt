@@ -108,7 +108,9 @@ fn stand_and_solve(
         (standing (now (minutes .entry)) (now (ordinates .entry)) (now (slopes .entry)) then eliminated (now (minutes .entry)) (now (ordinates .entry)) (now (slopes .entry)) then tested sloped (card-of (now (minutes .entry)) (now (ordinates .entry)) (now (slopes .entry))))
         (now (slopes .entry)) (now (curvatures .entry)) (now (slopes .entry)) (now (curvatures .exit)) r ⌝ }
 {
-    let stood = answer::first(knots::stand(minutes, ordinates), in_range(minutes, slopes));
+    let knots_stand = knots::stand(minutes, ordinates);
+    let slopes_range = in_range(minutes, slopes);
+    let stood = answer::first(knots_stand, slopes_range);
     match stood {
         Judged::Accepted => solve(minutes, ordinates, slopes, curvatures),
         Judged::Refused(number, place) => Fitted { number, place },
