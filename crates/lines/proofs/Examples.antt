@@ -1,5 +1,5 @@
--- A knot's line, the knot eliminated behind another, and the way back to it, by the bits of their numbers, computed: gaps
--- that are no powers of two, so that each rounding counts. Assumes nothing.
+-- A knot's line, the knot eliminated behind another, and the way back to it, by the bits of their numbers,
+-- computed: gaps that are no powers of two, so that each rounding counts. Assumes nothing.
 use Prim.Native.Nat.{ℕ}
 use mathlib.Core.Path.{_≡_, refl}
 use mathlib.Core.Bool.{true, false}
@@ -35,19 +35,21 @@ here = hundredths (minus 2_400)
 abbrev to : Float
 to = hundredths (pos 214_500)
 
--- the knot between them
+-- the first knot
+abbrev first : State
+first = left-by-step (line-eliminated (line no-gap down f0 from here) zero-state true false)
+
+-- and the one between the gaps
 abbrev between : Line
 between = line down up from here to
-
-abbrev behind : State
-behind = left-by-step (line-eliminated between (left-by-step (line-eliminated (line no-gap down f0 from here) zero-state true false)) false false)
 
 abbrev wanted : State
 wanted = single (bits 0xbfc9_9999_9999_999a) (bits 0x4009_768e_38e3_8e3c)
 
 pub by-their-bits :
     (between ≡ record { a = bits 0x3fd6_6666_6666_6666; l = bits 0xbfa9_9999_9999_999a; r = bits 0xbfb1_1111_1111_1111; k = bits 0x3fed_9cbd_a12f_6850 })
-    × (behind ≡ wanted)
+    × (first ≡ single (bits 0xbfd5_5555_5555_5555) (bits 0x4005_b155_5555_5554))
+    × (left-by-step (line-eliminated between first false false) ≡ wanted)
     × (line-back wanted (pair f0 (bits 0x4009_cb05_449b_6cf1)) ≡ pair f0 (bits 0x400e_9f28_e035_d739))
 unfolding gap no-gap line-solved line-eliminated ofBits ofInt add sub mul div neg ne
-by-their-bits = (refl, refl, refl)
+by-their-bits = (refl, refl, refl, refl)

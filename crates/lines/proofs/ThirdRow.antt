@@ -1,5 +1,5 @@
--- The line of a knot is the third-derivative row of `coefficients` with the products of the slopes moved to its right
--- side: in binary64 by its coefficients, and in whole numbers as an equation. Assumes nothing.
+-- The line of a knot is the third-derivative row of `coefficients` with the products of the slopes moved to
+-- its right side: in binary64 by its coefficients, and in whole numbers as an equation. Assumes nothing.
 use Prim.Native.Nat.{ℕ}
 use mathlib.Core.Path.{_≡_, refl}
 use mathlib.Core.List.{[], _∷_}
@@ -16,8 +16,8 @@ use Rattle.lines.specs.Lines.{Equation, equation, line, line-of}
 
 -- ---- in whole numbers
 
--- a knot with the powers p and the rise E of the gap on its left, g and D on its right; the pairs of the knot before,
--- its own, and of the next knot
+-- a knot with the powers p and the rise E of the gap on its left, g and D on its right; the pairs of the knot
+-- before, its own, and of the next knot
 module _ {X : Type 0} (arithmetic : Arithmetic X) (p : ℕ → X) (E : X) (g : ℕ → X) (D s⁻ c⁻ s c s⁺ c⁺ : X) where
   open Arithmetic arithmetic using (_⊕_, _⊖_, _⊗_)
 

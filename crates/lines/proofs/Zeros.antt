@@ -1,5 +1,5 @@
--- The zeros beside a knot's one number change no test of 8: it is met by S, P and H alone, and on the way back by the
--- curvature alone. Assumes nothing.
+-- The zeros beside a knot's one number change no test of 8: it is met by S, P and H alone, and on the way
+-- back by the curvature alone. Assumes nothing.
 use mathlib.Core.Path.{_≡_, refl}
 use mathlib.Core.Bool.{_&&_}
 use lib.Ieee.{Float, ofBits}

@@ -1,6 +1,6 @@
--- Document 02, order 8, "Values with measured slopes": a knot's one equation, the third-derivative row with the given
--- slopes moved to the right side, over any numbers and in binary64; and its elimination, "document 01's with one number
--- per knot". Assumes nothing.
+-- Document 02, order 8, "Values with measured slopes": a knot's one equation, the third-derivative row with
+-- the given slopes moved to the right side, over any numbers and in binary64; and its elimination, "document
+-- 01's with one number per knot". Assumes nothing.
 use Prim.Native.Nat.{ℕ}
 use mathlib.Core.Path.{_≡_, refl}
 use mathlib.Core.Bool.{Bool, cond}

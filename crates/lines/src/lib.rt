@@ -1,6 +1,7 @@
 // One knot of order 8's elimination in binary64, with one number per knot: its equation, the slopes given and
-// moved to the right side, what the knot before leaves of it, its solution and the way back. It follows document
-// 02's "Values with measured slopes", in the order written there; the tests of number 8 are `elimination`'s.
+// moved to the right side, what the knot before leaves of it, its solution and the way back. It follows
+// document 02's "Values with measured slopes", in the order written there; the tests of number 8 are
+// `elimination`'s.
 use elimination::State;
 use elimination::Step;
 use rows::Block;

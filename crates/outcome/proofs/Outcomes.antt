@@ -90,7 +90,12 @@ use Rattle.rows.proofs.equations_of.Reads as equations-of
 use Rattle.elimination.proofs.back.Reads as row-back
 use Rattle.elimination.proofs.finite.Reads as finite
 use Rattle.elimination.proofs.finite_pair.Reads as finite-pair
+use Rattle.elimination.proofs.judge.Reads as judge-knot
 use Rattle.elimination.proofs.eliminate.Reads as eliminate
+use Rattle.lines.proofs.hundredths.Reads as hundredths
+use Rattle.lines.proofs.line_of.Reads as line-of
+use Rattle.lines.proofs.eliminate.Reads as eliminate-line
+use Rattle.lines.proofs.back.Reads as line-back
 use Rattle.passes.proofs.pairs_of.Reads as pairs-of
 use Rattle.units.proofs.units_of.Reads as units-of
 use Rattle.ends.proofs.code.Reads as code
@@ -104,6 +109,7 @@ use Rattle.fit.proofs.Outcome.{one-fit}
 use Rattle.fit.proofs.fit_between.Reads as fit-between
 use Rattle.fit.proofs.fit_codes.Reads as fit-codes
 use Rattle.fit.proofs.fit.Reads as fit
+use Rattle.slope_fit.proofs.fit.Reads as slope-fit
 use Rattle.refit.specs.declared.Refitted.{Refitted}
 use Rattle.refit.specs.Promise.{Refits}
 use Rattle.refit.proofs.refit.Reads as refit
@@ -273,6 +279,14 @@ module _ {K A S : Type 0} (fit : K → A → Answer Card) (ms Ms : K → A → L
 
   fitting : Once Fitting × Lent Fitting ms′ × Lent Fitting Ms′
   fitting = ((λ κs a x y s t p q. one-fit p q .0), (λ κs a x y s t p q. one-fit p q .1), λ κs a x y s t p q. one-fit p q .2)
+
+module _ {K A S : Type 0} (fit : K → A → Answer Card) (ms Ms : K → A → List ℤ) (Ms′ : S → List ℤ) where
+  -- the slopes are lent to be read
+  abbrev Slope-fitting : K → A → Fitted → S → Type 0
+  Slope-fitting κs a x s = Fits (fit κs a) (ms κs a) (Ms κs a) (ms κs a) (Ms′ s) x
+
+  slope-fitting : Once Slope-fitting × Lent Slope-fitting Ms′
+  slope-fitting = ((λ κs a x y s t p q. one-fit p q .0), λ κs a x y s t p q. one-fit p q .2)
 
 module _ {K A S : Type 0} (bytes : K → A → List ℕ) (ms Ms : K → A → List ℤ) (ms′ Ms′ : S → List ℤ) where
   abbrev Refitting : K → A → Refitted → S → Type 0
@@ -449,8 +463,11 @@ put-in-a-book = putting-in _ _ _
 pub rows : Once row-gap.Post × Once empty-gap.Post × Once equations-of.Post
 rows = (equation _ _, equation _ _, equation _ _)
 
-pub elimination : Once no-pair.Post × Once start.Post × Once row-back.Post × Once finite.Post × Once finite-pair.Post × Once eliminate.Post
-elimination = (equation _ _, equation _ _, equation _ _, equation _ _, equation _ _, equation _ _)
+pub elimination : Once no-pair.Post × Once start.Post × Once row-back.Post × Once finite.Post × Once finite-pair.Post × Once judge-knot.Post × Once eliminate.Post
+elimination = (equation _ _, equation _ _, equation _ _, equation _ _, equation _ _, equation _ _, equation _ _)
+
+pub lines : Once hundredths.Post × Once line-of.Post × Once eliminate-line.Post × Once line-back.Post
+lines = (equation _ _, equation _ _, equation _ _, equation _ _)
 
 pub passes : Once pairs-of.Post × Once units-of.Post × Once scale.Post × Lent write-numbers.Post (λ s. now (s .0))
 passes = (equation _ _, equation _ _, equation _ _, equation _ _)
@@ -467,6 +484,9 @@ fit-by-codes = fitting _ _ _ _ _
 
 pub fit-without-ends : Once fit.Post × Lent fit.Post (λ s. now (s .1 .1 .0)) × Lent fit.Post (λ s. now (s .1 .1 .1 .0))
 fit-without-ends = fitting _ _ _ _ _
+
+pub fit-by-slopes : Once slope-fit.Post × Lent slope-fit.Post (λ s. now (s .1 .1 .1 .0))
+fit-by-slopes = slope-fitting _ _ _ _
 
 -- here the second and the third
 pub fit-anew : Once refit.Post × Lent refit.Post (λ s. now (s .1 .0)) × Lent refit.Post (λ s. now (s .1 .1 .0))

@@ -1,5 +1,5 @@
--- What a pass does at a knot by its job: document 01's, slopes and curvatures between two ends; or document 02's
--- order 8, curvatures by the slopes given. Assumes nothing.
+-- What a pass does at a knot by its job: document 01's, slopes and curvatures between two ends; or document
+-- 02's order 8, curvatures by the slopes given. Assumes nothing.
 use Prim.Native.Nat.{ℕ}
 use mathlib.Core.List.{List}
 use lib.IntN.{ℤ}

@@ -1,6 +1,6 @@
 -- The knots of a sheet, given as minutes and ordinates, in the elimination: which gaps lie beside knot i and which end
--- it is, after document 01's "The equations"; and which slopes, where they are given too (document 02, order 8).
--- Assumes nothing; read for rising minutes and lists of one length.
+-- it is, after document 01's "The equations"; and which slopes, where they are given too (document 02, order
+-- 8). Assumes nothing; read for rising minutes and lists of one length.
 use Prim.Native.Nat.{ℕ, zero, suc, _+_, _-_, _<_}
 use mathlib.Core.Bool.{Bool, cond}
 use mathlib.Core.List.{List}

@@ -1,7 +1,7 @@
 // The two passes of the fit's elimination over a sheet of knots, forward and back, after document 01's "The elimination,
-// rounded once per operation" and document 02's "Values with measured slopes": they give each knot's slope and
-// curvature, or number 8 at the knot where it is first met. Where the slopes are given, the curvatures alone are
-// solved for, and zeros stand for the slopes.
+// rounded once per operation" and document 02's "Values with measured slopes": they give each knot's slope
+// and curvature, or number 8 at the knot where it is first met. Where the slopes are given, the curvatures
+// alone are solved for, and zeros stand for the slopes.
 ghost use mathlib.Core.Path.{_≡_};
 ghost use Prim.Native.Nat.{_+_, _≤_, _<_};
 ghost use lib.IntN.{pos};
@@ -226,8 +226,8 @@ fn back_pass(job: Job, states: [State; MOST], n: usize) -> Solved
     }
 }
 
-// The slope and the curvature of each knot, in hundredths per minute (squared): forward, then back. The slopes
-// are read only where they are what is given.
+// The slope and the curvature of each knot, in hundredths per minute (squared): forward, then back. The
+// slopes are read only where they are what is given.
 pub fn pairs_of(minutes: &[u16], ordinates: &[i16], slopes: &[i32], job: Job) -> Solved
     requires { ⌜ (length (now minutes) ≤ most) × (length (now ordinates) ≡ length (now minutes)) × (length (now slopes) ≡ length (now minutes)) ⌝ }
     requires { ⌜ Rising (now minutes) ⌝ }

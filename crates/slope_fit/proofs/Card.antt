@@ -1,5 +1,5 @@
--- An accepted fit gives a card that kind 6's test accepts: the knots and slopes that it was handed, both codes 0, and as
--- many curvatures as there are knots. Assumes nothing.
+-- An accepted fit gives a card that kind 6's test accepts: the knots and slopes that it was handed, both
+-- codes 0, and as many curvatures as there are knots. Assumes nothing.
 use Prim.Native.Nat.{ℕ}
 use mathlib.Core.Path.{_≡_, refl, sym, ap, ap₂, subst, _∙_}
 use mathlib.Core.List.{List}

@@ -1,4 +1,5 @@
--- No step of the fit's order refuses with the number 0, so that a fit answers 0 exactly where it accepts. Assumes nothing.
+-- No step of the fit's order refuses with the number 0, so that a fit answers 0 exactly where it accepts.
+-- Assumes nothing.
 use Prim.Native.Nat.{ℕ}
 use mathlib.Core.List.{List}
 use lib.Dec.{lit<}

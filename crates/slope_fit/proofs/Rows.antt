@@ -1,7 +1,7 @@
--- Order 8's fit by computation of its definition: Table 3's slopes give Table 3's card; Table 4 of document 000, its
--- minutes 3 more and its slopes times 4096, gives its printed halves of the second derivatives times 8192, rounded; an
--- uneven sheet; and refusals in their order. The curvatures are those of the exact solution, rounded to card units.
--- Assumes nothing.
+-- Order 8's fit by computation of its definition: Table 3's slopes give Table 3's card; Table 4 of document
+-- 000, its minutes 3 more and its slopes times 4096, gives its printed halves of the second derivatives times
+-- 8192, rounded; an uneven sheet; and refusals in their order. The curvatures are those of the exact
+-- solution, rounded to card units. Assumes nothing.
 use Prim.Native.Nat.{ℕ}
 use mathlib.Core.Path.{_≡_, refl}
 use mathlib.Core.List.{List, [], _∷_}

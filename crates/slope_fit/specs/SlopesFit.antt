@@ -1,7 +1,7 @@
--- Document 02, order 8, "Values with measured slopes": the card that the elimination gives where the slopes are
--- given, and the order in which it is tested: "those of document 01 in its order, with .. 9 for the given slopes
--- before 8". What a fit leaves its caller is `fit`'s promise, of slopes that are at exit what they were.
--- Assumes nothing.
+-- Document 02, order 8, "Values with measured slopes": the card that the elimination gives where the slopes
+-- are given, and the order in which it is tested: "those of document 01 in its order, with .. 9 for the given
+-- slopes before 8". What a fit leaves its caller is `fit`'s promise, of slopes that are at exit what they
+-- were. Assumes nothing.
 use Prim.Native.Nat.{ℕ}
 use mathlib.Core.List.{List}
 use lib.ListN.{length}

@@ -1,6 +1,6 @@
-// Document 02's order 8, "Values with measured slopes": the fit of curvatures alone, by slopes that are given in
-// card units. It tests what it is handed, eliminates, works the curvatures out beside the lent list, tests them,
-// and only then writes them. The slopes are read, and never written.
+// Document 02's order 8, "Values with measured slopes": the fit of curvatures alone, by slopes that are given
+// in card units. It tests what it is handed, eliminates, works the curvatures out beside the lent list, tests
+// them, and only then writes them. The slopes are read, and never written.
 ghost use mathlib.Core.Path.{_≡_};
 ghost use mathlib.Core.List.{List};
 ghost use Prim.Native.Nat.{_≤_};
