@@ -27,7 +27,7 @@ use Rattle.ends.specs.Ends.{unfit, unfit-end, end-by, ends}
 use Rattle.fit.specs.Fit.{standing, eliminated, tested, card-of}
 use Rattle.fit.proofs.Order.{in-groups}
 use Rattle.lines.specs.Lines.{f4096, hundredths}
-use Rattle.refit.specs.Fresh.{fresh}
+use Rattle.refit.specs.Fresh.{fresh-between, fresh}
 
 -- ---- in binary64
 
@@ -133,8 +133,8 @@ module _ (c : Card) (e : verdict quintic c ≡ accepted) where
       both-accept (first-accepts _ _ (sized .3)) (both-accept (accepts-refuse 7 0 (own-fit (c .left) 0 (omega arith))) (accepts-refuse 7 (knots c - 1) (own-fit (c .right) (knots c - 1) (omega arith))))
 
   -- what is left of the fit's order: 8; 9; 10
-  pub only-8-9-10 : fresh c ≡ (eliminated (c .minutes) (c .ordinates) left right then tested quintic (card-of (c .minutes) (c .ordinates) left right))
-  unfolding fresh knots _then_
+  pub only-8-9-10 : fresh quintic c ≡ (eliminated (c .minutes) (c .ordinates) left right then tested quintic (card-of (c .minutes) (c .ordinates) left right))
+  unfolding fresh fresh-between quintic knots _then_
   only-8-9-10 =
       let n = knots c in
       let g = good quintic c e in

@@ -1,5 +1,6 @@
--- What an answer of no changed numbers says: the card's slopes and curvatures are those of its fresh fit. And a card as it is fitted with free ends, or without ends, is so answered.
--- Assumes nothing.
+-- What an answer of no changed numbers says: the card's slopes and curvatures are those of its fresh fit. And a
+-- card as it is fitted with free ends, without ends, or by given slopes, is so answered; by given slopes only
+-- curvatures are counted. Assumes nothing.
 use Prim.Native.Nat.{ℕ}
 use native.Mathlib.Omega.{arith}
 use mathlib.Core.Path.{_≡_, refl, sym, ap, _∙_}
@@ -8,7 +9,7 @@ use lib.IntN.{ℤ, pos, ℤ-discrete}
 use lib.Ieee.{Float, ofInt, ofBits, div}
 use lib.ListN.{length, getD}
 use Rattle.answer.specs.Answer.{given, _then_, refuse}
-use Rattle.curve.specs.Kind.{quintic}
+use Rattle.curve.specs.Kind.{Kind, quintic, sloped}
 use Rattle.curve.specs.Card.{Card, knots, knot}
 use Rattle.curve.specs.Steps.{codes}
 use Rattle.rows.specs.declared.End.the-variants.{Free}
@@ -16,10 +17,13 @@ use Rattle.rows.specs.Floats.{f0}
 use Rattle.ends.specs.Ends.{end-by}
 use Rattle.fit.specs.Fit.{fit-between, fit-codes, fit}
 use Rattle.fit.proofs.AtRest.{starts-at-rest}
+use Rattle.slope_fit.specs.SlopesFit.{slopes-fit}
+use Rattle.slope_fit.proofs.Card.{its-own}
 use Rattle.card_bytes.specs.Held.{card-of}
 use Rattle.refit.specs.declared.Refitted.{Refitted}
 use Rattle.lines.specs.Lines.{hundredths}
-use Rattle.refit.specs.Fresh.{fresh, refit}
+use Rattle.refit.specs.Fresh.{fresh-between, fresh, refit}
+use Rattle.refit.specs.Differing.{differing}
 use Rattle.refit.specs.Promise.{changed, refitted, Refits}
 use Rattle.refit.proofs.Given.{fresh-is}
 use Rattle.refit.proofs.Places.{none-of-itself, none-is-same}
@@ -47,20 +51,20 @@ unchanged-is-the-fit {s} {d = d} refits e =
     ((λ z. none-changed (card-of s) d (omega (arith, is))), λ same. is ∙ same-unchanged (card-of s) d same)
 
 -- a card with the numbers of its fresh fit
-fresh-is-unchanged : (c : Card) {d : Card} → fresh c ≡ given d → Same-numbers c d → refitted c (fresh c) ≡ record { number = 0; place = 0; knots = knots c; changed = 0 }
+fresh-is-unchanged : (K : Kind) (c : Card) {d : Card} → fresh K c ≡ given d → Same-numbers c d → refitted c (fresh K c) ≡ record { number = 0; place = 0; knots = knots c; changed = 0 }
 unfolding refitted
-fresh-is-unchanged c {d} e same = ap (refitted c) e ∙ ap (λ k. record { number = 0; place = 0; knots = knots c; changed = k }) (same-unchanged c d same)
+fresh-is-unchanged K c {d} e same = ap (refitted c) e ∙ ap (λ k. record { number = 0; place = 0; knots = knots c; changed = k }) (same-unchanged c d same)
 
 -- ---- free ends
 
 module _ (c : Card) (left : c .left ≡ 0) (right : c .right ≡ 0) where
-  pub free-is-fit-between : fresh c ≡ fit-between (c .minutes) (c .ordinates) (knots c) (knots c) Free Free
-  unfolding fresh end-by codes quintic _then_ refuse
+  pub free-is-fit-between : fresh quintic c ≡ fit-between (c .minutes) (c .ordinates) (knots c) (knots c) Free Free
+  unfolding fresh fresh-between end-by codes quintic _then_ refuse
   free-is-fit-between = rw (left, right)
 
   pub fitted-is-unchanged : {d : Card} → fit-between (c .minutes) (c .ordinates) (knots c) (knots c) Free Free ≡ given d → Same-numbers c d
-      → refitted c (fresh c) ≡ record { number = 0; place = 0; knots = knots c; changed = 0 }
-  fitted-is-unchanged e same = fresh-is-unchanged c (free-is-fit-between ∙ e) same
+      → refitted c (fresh quintic c) ≡ record { number = 0; place = 0; knots = knots c; changed = 0 }
+  fitted-is-unchanged e same = fresh-is-unchanged quintic c (free-is-fit-between ∙ e) same
 
 -- ---- the fit without ends: the numbers that it gives at the left are whole on the card
 
@@ -73,14 +77,34 @@ module _ (c : Card) (left : c .left ≡ 1) (right : c .right ≡ 0) where
   unfolding end-by codes quintic _then_ refuse
   rest-by-codes a b = rw (left, right)
 
-  pub rest-is-fit : knot c 0 .m ≡ pos 0 → knot c 0 .M ≡ pos 0 → fresh c ≡ fit (c .minutes) (c .ordinates) (knots c) (knots c)
+  pub rest-is-fit : knot c 0 .m ≡ pos 0 → knot c 0 .M ≡ pos 0 → fresh quintic c ≡ fit (c .minutes) (c .ordinates) (knots c) (knots c)
+  unfolding fresh quintic
   rest-is-fit m M = sym (fresh-is c refl refl refl (sym (ap hundredths m ∙ no-hundredths)) (sym (ap hundredths M ∙ no-hundredths)) refl refl) ∙ rest-by-codes _ _
 
   pub default-is-unchanged : {d : Card} → fit (c .minutes) (c .ordinates) (knots c) (knots c) ≡ given d → Same-numbers c d
-      → refitted c (fresh c) ≡ record { number = 0; place = 0; knots = knots c; changed = 0 }
+      → refitted c (fresh quintic c) ≡ record { number = 0; place = 0; knots = knots c; changed = 0 }
   unfolding knot
   default-is-unchanged e same =
       let rests = starts-at-rest (c .minutes) (c .ordinates) (knots c) (knots c) e in
       let m = ap (λ l. getD l 0 (pos 0)) (same .slopes) ∙ rests .0 in
       let M = ap (λ l. getD l 0 (pos 0)) (same .curvatures) ∙ rests .1 in
-      fresh-is-unchanged c (rest-is-fit m M ∙ e) same
+      fresh-is-unchanged quintic c (rest-is-fit m M ∙ e) same
+
+-- ---- given slopes
+
+module _ (c : Card) where
+  pub slopes-fitted-is-unchanged : {d : Card} → slopes-fit (c .minutes) (c .ordinates) (c .slopes) (knots c) ≡ given d → Same-numbers c d
+      → refitted c (fresh sloped c) ≡ record { number = 0; place = 0; knots = knots c; changed = 0 }
+  unfolding fresh sloped
+  slopes-fitted-is-unchanged e same = fresh-is-unchanged sloped c e same
+
+  module _ {d : Card} (e : fresh sloped c ≡ given d) where
+    pub own-slopes-back : d .slopes ≡ c .slopes
+    unfolding fresh sloped
+    own-slopes-back = ap (λ d. d .slopes) (its-own (c .minutes) (c .ordinates) (c .slopes) (knots c) e)
+
+    pub curvatures-alone-counted : changed c (d .slopes) (d .curvatures) ≡ differing ℤ-discrete (c .curvatures) (d .curvatures)
+    unfolding changed
+    curvatures-alone-counted =
+        let none : differing ℤ-discrete (c .slopes) (d .slopes) ≡ 0 = ap (differing ℤ-discrete (c .slopes)) own-slopes-back ∙ none-of-itself ℤ-discrete (c .slopes) in
+        omega arith

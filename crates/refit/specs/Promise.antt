@@ -6,6 +6,7 @@ use mathlib.Core.List.{List, _++_}
 use lib.IntN.{ℤ, ℤ-discrete}
 use lib.ListN.{length, drop}
 use Rattle.answer.specs.Answer.{Answer, refused, given}
+use Rattle.curve.specs.Kind.{Kind}
 use Rattle.curve.specs.Card.{Card, knots}
 use Rattle.fit.specs.Promise.{slopes-after, curvatures-after}
 use Rattle.card_bytes.specs.Held.{card-of}
@@ -36,7 +37,7 @@ pub record Refits (s : List ℕ) (ms Ms ms′ Ms′ : List ℤ) (r : Refitted) :
 -- ---- inside
 
 -- the same of an accepted card, and lists of its n places
-pub record Renews (c : Card) (ms Ms ms′ Ms′ : List ℤ) (r : Refitted) : Type 0 where
-  pub answer : r ≡ refitted c (fresh c)
-  pub slopes : ms′ ≡ slopes-after (fresh c) ms
-  pub curvatures : Ms′ ≡ curvatures-after (fresh c) Ms
+pub record Renews (K : Kind) (c : Card) (ms Ms ms′ Ms′ : List ℤ) (r : Refitted) : Type 0 where
+  pub answer : r ≡ refitted c (fresh K c)
+  pub slopes : ms′ ≡ slopes-after (fresh K c) ms
+  pub curvatures : Ms′ ≡ curvatures-after (fresh K c) Ms

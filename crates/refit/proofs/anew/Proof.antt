@@ -9,8 +9,8 @@ use Rattle.refit.proofs.anew.Tie as tie
 fresh-requires : tie.Need-fresh-requires
 fresh-requires c κs = search needs
 
-cast-t10 : tie.Need-cast-t10
-cast-t10 c = search needs
+cast-t11 : tie.Need-cast-t11
+cast-t11 c = search needs
 
 changed-requires : tie.Need-changed-requires
 changed-requires c κs = search needs
@@ -41,7 +41,7 @@ anew-spec =
     tie.close
     (tie.spec
     fresh-requires
-    cast-t10
+    cast-t11
     changed-requires
     same-length
     same-length-2

@@ -1,4 +1,4 @@
--- `refit::fresh` meets its contract. Assumes nothing.
+-- `refit::fresh_between` meets its contract. Assumes nothing.
 use Prim.Native.Nat.{_-_, _<_}
 use native.Mathlib.Omega.{arith}
 use mathlib.Core.Path.{sym}
@@ -9,8 +9,8 @@ use Rattle.fit.proofs.Fitting.{fits-along}
 use Rattle.opened.proofs.Fronts.{knots-decoded}
 use Rattle.refit.proofs.Given.{given-at, fresh-is}
 use borrow.Author.Needs.{needs}
-use Rattle.refit.proofs.fresh.Statement.{statement}
-use Rattle.refit.proofs.fresh.Tie as tie
+use Rattle.refit.proofs.fresh_between.Statement.{statement}
+use Rattle.refit.proofs.fresh_between.Tie as tie
 
 sub-last : tie.Need-sub-last
 sub-last c = search needs
@@ -85,8 +85,8 @@ returns c =
     (given-at (d .curvatures) last (record { sfits = right .before .hundredths-arg4 .given }) (right .hundredths4 .ensures)))
     (f .fit-codes .ensures)
 
-pub fresh-spec : {M : Type 1} → statement M
-fresh-spec =
+pub fresh-between-spec : {M : Type 1} → statement M
+fresh-between-spec =
     tie.close
     (tie.spec
     sub-last

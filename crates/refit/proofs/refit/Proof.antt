@@ -15,7 +15,7 @@ use Rattle.card_bytes.specs.Held.{card-of}
 use Rattle.card_bytes.proofs.ByHead.{accepted-count}
 use Rattle.decode.specs.Decoded.{Holds}
 use Rattle.opened.proofs.Fronts.{knots-held}
-use Rattle.opened.proofs.Opening.{accepted-holds}
+use Rattle.opened.proofs.Opening.{opened-kind, accepted-holds}
 use Rattle.card.specs.Answers.{own}
 use Rattle.card.proofs.Lists.{opened-order, Taken, order-takes}
 use Rattle.refit.proofs.Renewal.{refits-refused, refits-given}
@@ -36,19 +36,19 @@ enum-told : tie.Need-enum-told
 enum-told c = search needs
 
 verdict-is : (c : tie.After-into)
-    → (let a = c .before .before .before .before .args in let s = now (a .card) in let m = length (now (a .slopes)) in
+    → (let a = c .before .before .before .before .before .args in let s = now (a .card) in let m = length (now (a .slopes)) in
     verdict-of (c .into .result) ≡ lists-order m m m (length (now (a .curvatures))) (own s) (knots (card-of s)))
-verdict-is c = c .into .ensures ∙ opened-order _ _ _ _ _ (c .before .before .by-head .ensures)
+verdict-is c = c .into .ensures ∙ opened-order _ _ _ _ _ (c .before .before .before .by-head .ensures)
 
-took : (c : tie.After-enum-told) → (let a = c .before .before .before .before .before .before .args in let m = length (now (a .slopes)) in Taken m m m (length (now (a .curvatures))) (now (a .card)))
+took : (c : tie.After-enum-told) → (let a = c .before .before .before .before .before .before .before .args in let m = length (now (a .slopes)) in Taken m m m (length (now (a .curvatures))) (now (a .card)))
 took c = order-takes _ _ _ _ _ (step-accepts (verdict-is (c .before .before)) (c .enum-told .given .1))
 
-holds : (c : tie.After-enum-told) → Holds (c .before .before .before .before .by-head .result .card) (now (c .before .before .before .before .before .before .args .card))
-holds c = accepted-holds (c .before .before .before .before .by-head .ensures) (took c .own)
+holds : (c : tie.After-enum-told) → Holds (c .before .before .before .before .before .by-head .result .card) (now (c .before .before .before .before .before .before .before .args .card))
+holds c = accepted-holds (c .before .before .before .before .before .by-head .ensures) (took c .own)
 
 -- both lists have a place for each knot
 room : (c : tie.After-enum-told)
-    → (let a = c .before .before .before .before .before .before .args in let n = c .before .before .before .before .by-head .result .card .knots in
+    → (let a = c .before .before .before .before .before .before .before .args in let n = c .before .before .before .before .before .by-head .result .card .knots in
     (n ≤ length (now (a .slopes))) × (n ≤ length (now (a .curvatures))))
 room c = (omega (arith, took c .room, knots-held (holds c)), omega (arith, took c .room, took c .curvatures, knots-held (holds c)))
 
@@ -84,7 +84,7 @@ returns-2 : tie.Need-returns-2
 returns-2 c =
     let t = c .before .before .before .before .before in
     let h = holds t in
-    refits-given _ _ _ (step-accepts (verdict-is (t .before .before)) (t .enum-told .given .1)) (sym (knots-held h)) (rw (h .is) at (c .before .before .anew .ensures))
+    refits-given _ _ _ (step-accepts (verdict-is (t .before .before)) (t .enum-told .given .1)) (opened-kind (t .before .before .before .before .before .by-head .ensures)) (sym (knots-held h)) (rw (h .is) at (c .before .before .anew .ensures))
 
 pub refit-spec : {M : Type 1} → statement M
 refit-spec =
