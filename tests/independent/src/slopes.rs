@@ -50,7 +50,7 @@ pub fn fits(tally: &mut Tally, random: &mut Random) {
 /// little more or less.
 pub fn at_a_half(tally: &mut Tally, random: &mut Random) {
     let mut met = 0;
-    for _ in 0..600_000 {
+    for _ in 0..1_500_000 {
         let Some((sheet, mut slopes)) = curves::slopes_at_a_half(random) else { continue };
         met += 1;
         fit_and_write(tally, random, &sheet, &slopes);
