@@ -1,7 +1,7 @@
 //! The numbers of include/kaihveto.h beside the reference's own.
 
 use crate::reference::{
-    numerator, Knot, CARD_NUMBER_LIMIT, FAULT, HIGHEST_GOOD_BYTE, LEAST_KNOTS, LONGEST_BOOK, LONGEST_LOG, MOST_KNOTS, ORDINATE_LIMIT,
+    numerator, Kind, Knot, CARD_NUMBER_LIMIT, FAULT, HIGHEST_GOOD_BYTE, LEAST_KNOTS, LONGEST_BOOK, LONGEST_LOG, MOST_KNOTS, ORDINATE_LIMIT,
     WIDEST_GAP,
 };
 
@@ -24,6 +24,8 @@ fn the_limits_are_the_references() {
         ("LOG_LARGEST_GOOD", i128::from(HIGHEST_GOOD_BYTE)),
         ("LOG_FAULT", i128::from(FAULT)),
         ("BOOK_MOST_BYTES", LONGEST_BOOK as i128),
+        ("FITTED", i128::from(Kind::Quintic.head())),
+        ("SLOPES_GIVEN", i128::from(Kind::Sloped.head())),
     ];
     for (name, limit) in limits {
         assert_eq!(defined(name), limit, "{name}");

@@ -82,7 +82,7 @@ impl Met {
 
 /// Heads: those of the two kinds, the numbers about them, those of the other records, and such as are a
 /// head's with their bytes changed over.
-const HEADS: [u16; 14] = [0, 1, 2, 3, 4, 5, 6, 7, 8, 255, 256, 257, 1536, 65_535];
+const HEADS: [u16; 15] = [0, 1, 2, 3, 4, 5, 6, 7, 8, 255, 256, 257, 262, 1536, 65_535];
 
 /// One card of either kind under every head, with every pair of codes.
 fn under_every_head(tally: &mut Tally, random: &mut Random, met: &mut Met, numbers: &Numbers) {
