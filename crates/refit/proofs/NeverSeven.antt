@@ -1,5 +1,5 @@
--- A number of an accepted card is fit to be given for an end, so that of such a card the fresh fit refuses with nothing but 8, 9 and 10.
--- Assumes nothing.
+-- A number of an accepted card is fit to be given for an end, and its slopes to be given, so that of such a
+-- card of either kind the fresh fit refuses with nothing but 8, 9 and 10. Assumes nothing.
 use Prim.Native.Nat.{ℕ, suc, _+_, _-_, _*_, _^_, _≤_, _<_}
 use native.Mathlib.Nat.{mul-right-comm, mul-one, mul-assoc, mul-comm, lt-of-lt-of-le, mul-le-mul-right, le-of-mul-le-mul-right}
 use native.Mathlib.Omega.{arith}
@@ -13,10 +13,10 @@ use lib.Ieee.{Float, nan, inf, fin, binary64, low, emax, up, down, round, ofInt,
 use lib.Ieee.Exact.{HasValue, round-exact}
 use borrow.Author.Tests.{le-ltb}
 use Rattle.answer.specs.Answer.{accepted, _then_}
-use Rattle.answer.proofs.Steps.{first-accepts, next-accepts, both-accept, accepts-refuse}
-use Rattle.curve.specs.Kind.{quintic}
-use Rattle.curve.specs.Card.{Card, knots, knot}
-use Rattle.curve.specs.Steps.{lengths, counted, codes}
+use Rattle.answer.proofs.Steps.{first-accepts, next-accepts, both-accept, accepts-refuse, refuse-accepts, accepts-each}
+use Rattle.curve.specs.Kind.{Kind, quintic, sloped}
+use Rattle.curve.specs.Card.{Card, knots, knot, joint}
+use Rattle.curve.specs.Steps.{lengths, counted, codes, slope-beyond, in-range, slope-in-range}
 use Rattle.curve.specs.Orders.{numbers-sound, sound, verdict}
 use Rattle.curve.proofs.Accepted.{good}
 use Rattle.knots.proofs.Accepted.{ranged}
@@ -26,6 +26,8 @@ use Rattle.rows.specs.Floats.{_⊘_}
 use Rattle.ends.specs.Ends.{unfit, unfit-end, end-by, ends}
 use Rattle.fit.specs.Fit.{standing, eliminated, tested, card-of}
 use Rattle.fit.proofs.Order.{in-groups}
+use Rattle.slope_fit.specs.SlopesFit as Slopes
+use Rattle.slope_fit.proofs.Order as SlopesOrder
 use Rattle.lines.specs.Lines.{f4096, hundredths}
 use Rattle.refit.specs.Fresh.{fresh-between, fresh}
 
@@ -102,6 +104,16 @@ end-fit code slope curvature p q = go (eqb code 1) (eqb code 2)
     go false true = q
     go false false = refl
 
+-- of the card's own order: 3; 1, 2; 15; the rest
+sized : (K : Kind) (c : Card) → verdict K c ≡ accepted
+    → (lengths (knots c) (length (c .ordinates)) (length (c .slopes)) (length (c .curvatures)) ≡ accepted)
+    × (counted K (knots c) ≡ accepted) × (codes K (c .left) (c .right) ≡ accepted) × (sound K c ≡ accepted)
+unfolding verdict
+sized K c e =
+    let f = next-accepts _ _ e in
+    let g = next-accepts _ _ f in
+    (first-accepts _ _ e, first-accepts _ _ f, first-accepts _ _ g, next-accepts _ _ g)
+
 module _ (c : Card) (e : verdict quintic c ≡ accepted) where
   abbrev own-end : ℕ → ℕ → End
   own-end code i = end-by code (hundredths (knot c i .m)) (hundredths (knot c i .M))
@@ -112,25 +124,17 @@ module _ (c : Card) (e : verdict quintic c ≡ accepted) where
   abbrev right : End
   right = own-end (c .right) (knots c - 1)
 
-  -- of the card's own order: 3; 1, 2; 15; the rest
-  sized : (lengths (knots c) (length (c .ordinates)) (length (c .slopes)) (length (c .curvatures)) ≡ accepted) × (counted quintic (knots c) ≡ accepted) × (codes quintic (c .left) (c .right) ≡ accepted) × (sound quintic c ≡ accepted)
-  unfolding verdict
-  sized =
-      let f = next-accepts _ _ e in
-      let g = next-accepts _ _ f in
-      (first-accepts _ _ e, first-accepts _ _ f, first-accepts _ _ g, next-accepts _ _ g)
-
   own-fit : (code i : ℕ) → i < knots c → unfit-end (own-end code i) ≡ false
   unfolding sound numbers-sound knots knot quintic
   own-fit code i l =
-      let r = ranged c (first-accepts _ _ (next-accepts _ _ (sized .3))) in
+      let r = ranged c (first-accepts _ _ (next-accepts _ _ (sized quintic c e .3))) in
       end-fit code _ _ (hundredths-fit _ (r .slopes i l)) (hundredths-fit _ (r .curvatures i l))
 
   standing-accepts : standing (c .minutes) (c .ordinates) left right ≡ accepted
   unfolding standing ends sound knots quintic
   standing-accepts =
       let few = good quintic c e .few in
-      both-accept (first-accepts _ _ (sized .3)) (both-accept (accepts-refuse 7 0 (own-fit (c .left) 0 (omega arith))) (accepts-refuse 7 (knots c - 1) (own-fit (c .right) (knots c - 1) (omega arith))))
+      both-accept (first-accepts _ _ (sized quintic c e .3)) (both-accept (accepts-refuse 7 0 (own-fit (c .left) 0 (omega arith))) (accepts-refuse 7 (knots c - 1) (own-fit (c .right) (knots c - 1) (omega arith))))
 
   -- what is left of the fit's order: 8; 9; 10
   pub only-8-9-10 : fresh quintic c ≡ (eliminated (c .minutes) (c .ordinates) left right then tested quintic (card-of (c .minutes) (c .ordinates) left right))
@@ -139,7 +143,36 @@ module _ (c : Card) (e : verdict quintic c ≡ accepted) where
       let n = knots c in
       let g = good quintic c e in
       let rest = eliminated (c .minutes) (c .ordinates) left right then tested quintic (card-of (c .minutes) (c .ordinates) left right) in
-      let alike : lengths n (length (c .ordinates)) n n ≡ accepted = ap₂ (lengths n (length (c .ordinates))) (sym (g .ms)) (sym (g .Ms)) ∙ sized .0 in
+      let alike : lengths n (length (c .ordinates)) n n ≡ accepted = ap₂ (lengths n (length (c .ordinates))) (sym (g .ms)) (sym (g .Ms)) ∙ sized quintic c e .0 in
       sym (in-groups (c .minutes) (c .ordinates) left right n n (codes quintic (c .left) (c .right)))
-      ∙ ap (λ v. v then standing (c .minutes) (c .ordinates) left right then rest) (both-accept alike (both-accept (sized .1) (sized .2)))
+      ∙ ap (λ v. v then standing (c .minutes) (c .ordinates) left right then rest) (both-accept alike (both-accept (sized quintic c e .1) (sized quintic c e .2)))
       ∙ ap (λ v. v then rest) standing-accepts
+
+-- ---- of a card of given slopes
+
+left-false : (a b : Bool) → (a || b) ≡ false → a ≡ false
+left-false true b e = e
+left-false false b e = refl
+
+module _ (c : Card) (e : verdict sloped c ≡ accepted) where
+  -- 9 passes its slopes
+  slopes-accept : Slopes.ranged (c .minutes) (c .ordinates) (c .slopes) ≡ accepted
+  unfolding Slopes.ranged slope-in-range in-range slope-beyond Slopes.card-of joint knot knots
+  slopes-accept =
+      let g = good sloped c e in
+      accepts-each _ 0 (length (c .minutes)) (λ i p l. accepts-refuse 9 i (left-false _ _ (refuse-accepts 9 i _ (g .ranged i (omega arith)))))
+
+  by-slopes-accepts : Slopes.standing (c .minutes) (c .ordinates) (c .slopes) ≡ accepted
+  unfolding Slopes.standing sound knots
+  by-slopes-accepts = both-accept (first-accepts _ _ (sized sloped c e .3)) slopes-accept
+
+  pub by-slopes-only-8-9-10 : fresh sloped c ≡ (Slopes.eliminated (c .minutes) (c .ordinates) (c .slopes) then tested sloped (Slopes.card-of (c .minutes) (c .ordinates) (c .slopes)))
+  unfolding fresh sloped counted knots _then_
+  by-slopes-only-8-9-10 =
+      let n = knots c in
+      let rest = Slopes.eliminated (c .minutes) (c .ordinates) (c .slopes) then tested sloped (Slopes.card-of (c .minutes) (c .ordinates) (c .slopes)) in
+      let own = sized sloped c e in
+      let alike : lengths n (length (c .ordinates)) (length (c .slopes)) n ≡ accepted = ap (lengths n (length (c .ordinates)) (length (c .slopes))) (sym (good sloped c e .Ms)) ∙ own .0 in
+      sym (SlopesOrder.in-groups (c .minutes) (c .ordinates) (c .slopes) n)
+      ∙ ap (λ v. v then Slopes.standing (c .minutes) (c .ordinates) (c .slopes) then rest) (both-accept alike (both-accept (own .1) refl))
+      ∙ ap (λ v. v then rest) by-slopes-accepts
