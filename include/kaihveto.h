@@ -40,13 +40,14 @@
    its stack pointer alone, as the convention says: these functions use them.
 
    Floating point. kaihveto_fit, kaihveto_fit_ends, kaihveto_fit_slopes, kaihveto_refit and kaihveto_mend
-   compute in binary64, each operation rounded once.
-   Their answers hold in the mode in which a process starts: rounding to nearest, subnormal numbers kept, exceptions masked. The
-   start-up code of a small board, and a program that is linked with -ffast-math, may set another: it is to be set back for the call.
-   (On x86-64 the mode is in MXCSR, on Arm in FPSCR or FPCR; the five may set its flags.) A compiler must not fuse a product and a sum
-   into one operation: kaihveto.c forbids that to GCC and clang by itself, and refuses -ffast-math; but clang does fuse with
-   -ffp-contract=fast on its command line, which is therefore not to be given, and -ffp-contract=off is never wrong. The other
-   functions have no floating-point operation and answer alike in every mode.
+   compute in binary64, each operation rounded once. Their answers hold in the mode in which a process starts:
+   rounding to nearest, subnormal numbers kept, exceptions masked. The start-up code of a small board, and a
+   program that is linked with -ffast-math, may set another: it is to be set back for the call. (On x86-64 the
+   mode is in MXCSR, on Arm in FPSCR or FPCR; the five may set its flags.) A compiler must not fuse a product
+   and a sum into one operation: kaihveto.c forbids that to GCC and clang by itself, and refuses -ffast-math;
+   but clang does fuse with -ffp-contract=fast on its command line, which is therefore not to be given, and
+   -ffp-contract=off is never wrong. The other functions have no floating-point operation and answer alike in
+   every mode.
 
    Stack. Bytes that a call needs at 64 knots, in a book at fourteen rooms with as many, measured and rounded up
    (docs/FIGURES.md, "Stack"); no proof bounds them. kaihveto.c was measured by GCC at -Os and -O2 on x86-64, Arm 64, Arm 32, RISC-V 64
