@@ -35,6 +35,7 @@ fn checked(word: &[u8], checked: card::Checked) {
     print::counted(b"; knots", checked.knots);
     print::counted(b"; left", checked.left);
     print::counted(b"; right", checked.right);
+    print::counted(b"; kind", checked.kind);
 }
 
 fn check(card: &[u8]) {
@@ -58,6 +59,12 @@ pub(crate) fn read(
     print::numbers(b"; curvatures", curvatures);
 }
 
+fn written(word: &[u8], written: writer::Written, buffer: &[u8]) {
+    print::verdict(word, written.number, written.place);
+    print::counted(b"; bytes", written.bytes);
+    print::buffer(buffer);
+}
+
 fn write(
     left: u16,
     right: u16,
@@ -67,10 +74,19 @@ fn write(
     curvatures: &[i32],
     buffer: &mut [u8],
 ) {
-    let written = writer::write(minutes, ordinates, slopes, curvatures, left, right, buffer);
-    print::verdict(b"write", written.number, written.place);
-    print::counted(b"; bytes", written.bytes);
-    print::buffer(buffer);
+    let answer = writer::write(minutes, ordinates, slopes, curvatures, left, right, buffer);
+    written(b"write", answer, buffer);
+}
+
+fn write_slopes(
+    minutes: &[u16],
+    ordinates: &[i16],
+    slopes: &[i32],
+    curvatures: &[i32],
+    buffer: &mut [u8],
+) {
+    let answer = writer::write_slopes(minutes, ordinates, slopes, curvatures, buffer);
+    written(b"write_slopes", answer, buffer);
 }
 
 fn fitted(fitted: fit::Fitted, slopes: &[i32], curvatures: &[i32]) {
@@ -82,6 +98,12 @@ fn fitted(fitted: fit::Fitted, slopes: &[i32], curvatures: &[i32]) {
 fn fit(minutes: &[u16], ordinates: &[i16], slopes: &mut [i32], curvatures: &mut [i32]) {
     let answer = fit::fit(minutes, ordinates, slopes, curvatures);
     fitted(answer, slopes, curvatures);
+}
+
+fn fit_slopes(minutes: &[u16], ordinates: &[i16], slopes: &[i32], curvatures: &mut [i32]) {
+    let fitted = slope_fit::fit(minutes, ordinates, slopes, curvatures);
+    print::verdict(b"fit_slopes", fitted.number, fitted.place);
+    print::numbers(b"; curvatures", curvatures);
 }
 
 // A numerator and a divisor, each as how many times 2^31 and the rest: exact up to 2^53.
@@ -176,6 +198,14 @@ pub(crate) fn of_knots(
         }
         7 => {
             write(left, right, minutes, ordinates, slopes, curvatures, list);
+            return;
+        }
+        10 => {
+            fit_slopes(minutes, ordinates, slopes, curvatures);
+            return;
+        }
+        11 => {
+            write_slopes(minutes, ordinates, slopes, curvatures, list);
             return;
         }
         _ => {
