@@ -1,3 +1,4 @@
+pub mod Numbers
 pub mod Typed
 pub mod Made
 pub mod Logless

@@ -82,11 +82,11 @@ module _ (a : Sheet) (none : Logless a) (ls : List ℕ) where
       unfolding gathered-reply filled
       as-they-stand to-knots lines card = rw (all-taken, so-many-from a ls 0 n, its-minutes, its-ordinates, its-faults)
 
-module _ (mends : Bool) (to-knots : ToKnots) (s : List ℕ) (none : Logless (sheet mends s)) where
+module _ (mends : Bool) (to-knots : Sheet → ToKnots) (s : List ℕ) (none : Logless (sheet mends s)) where
   -- a sheet of 3 to 64 knots, in which nothing is wrong
-  pub as-before-logs : sheet mends s .wrong ≡ 0 → counted quintic (sheet mends s .knots) ≡ accepted → (logs card : List ℕ) → text-reply mends to-knots s logs card ≡ written-reply to-knots (sheet mends s) card
+  pub as-before-logs : sheet mends s .wrong ≡ 0 → counted quintic (sheet mends s .knots) ≡ accepted → (logs card : List ℕ) → text-reply mends to-knots s logs card ≡ written-reply (to-knots (sheet mends s)) (sheet mends s) card
   unfolding text-reply
-  as-before-logs sound enough logs card = rw (eq-eqb (sheet mends s .wrong) 0 sound) (as-they-stand (sheet mends s) none logs (roomy mends s) enough to-knots (sheet mends s .lines) card)
+  as-before-logs sound enough logs card = rw (eq-eqb (sheet mends s .wrong) 0 sound) (as-they-stand (sheet mends s) none logs (roomy mends s) enough (to-knots (sheet mends s)) (sheet mends s .lines) card)
 
   -- and any other
   same-knots : (l l′ : List ℕ) (i k : ℕ) → knots-from (sheet mends s) l i k ≡ knots-from (sheet mends s) l′ i k

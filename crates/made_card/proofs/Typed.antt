@@ -15,16 +15,18 @@ use Rattle.log.proofs.Fits.{fits}
 use Rattle.gather.specs.declared.Gathered.{Gathered}
 use Rattle.gather.specs.Gathered.{plain, logged, logs, filled, gathering, settled}
 use Rattle.split.specs.Parts.{lines, bare, words}
-use Rattle.numeral.specs.Number.{starts, natural, ordinate}
+use Rattle.numeral.specs.Number.{starts, natural, signed-number, ordinate}
 use Rattle.numeral.specs.declared.Number.{Number}
 use Rattle.numeral.specs.declared.Number.the-variants.{Whole, Bad}
 use Rattle.numeral.specs.declared.Ordinate.{Ordinate}
 use Rattle.numeral.specs.declared.Ordinate.the-variants.{Given, Hole as Missing, Wrong}
+use Rattle.numeral.specs.declared.Signed.{Signed}
+use Rattle.numeral.specs.declared.Signed.the-variants.{Told, Untold}
 use Rattle.numeral.proofs.Numbers.{natural-upto}
 use Rattle.holes.specs.Hole.{hole}
-use Rattle.text.specs.Sheet.{too-long, nameless, at-sign, with-ordinate, behind, knot-by, knot, line-by, is-hole, line, most, refused, with-knot, taken, goes-on, read, longest, sheet}
+use Rattle.text.specs.Sheet.{too-long, nameless, no-slope, slopeless, odd-slope, unmended, at-sign, with-ordinate, behind, knot-by, knot, with-slope, line-by, is-hole, line, most, refused, with-knot, without-slope, unsloped, sloping, taken, goes-on, read, longest, sheet}
 use Rattle.text.specs.declared.Line.{Line}
-use Rattle.text.specs.declared.Line.the-variants.{Empty, Knot, Hole, Log, Refused}
+use Rattle.text.specs.declared.Line.the-variants.{Empty, Knot, Sloped, Hole, Log, SlopedLog, Refused}
 use Rattle.text.specs.declared.Sheet.{Sheet}
 use Rattle.reply.specs.Knots.{log-at, knot-at, knots-from, gathered}
 use Rattle.kaihveto.specs.Types.{Minutes}
@@ -58,8 +60,10 @@ abbrev Small : Line → Type 0
 Small Empty = Unit {0}
 Small (Refused wrong) = Unit {0}
 Small (Knot x y) = x < 2 ^ 16
+Small (Sloped x y m) = x < 2 ^ 16
 Small (Hole x) = x < 2 ^ 16
 Small (Log x) = x < 2 ^ 16
+Small (SlopedLog x m) = x < 2 ^ 16
 
 small-with-ordinate : (n : ℕ) → n < 2 ^ 16 → (y : Ordinate) → Small (with-ordinate n y)
 unfolding with-ordinate
@@ -84,6 +88,18 @@ small-knot x w = go (natural latest x) refl
     go (Bad wrong) e = tt
     go (Whole n) e = small-behind n (omega (arith, natural-upto latest x e)) w
 
+small-with-slope : (l : Line) → Small l → (m : Signed) → Small (with-slope l m)
+unfolding with-slope
+small-with-slope (Knot x y) h (Told m) = h
+small-with-slope (Knot x y) h (Untold wrong) = tt
+small-with-slope (Log x) h (Told m) = h
+small-with-slope (Log x) h (Untold wrong) = tt
+small-with-slope (Hole x) h m = tt
+small-with-slope Empty h m = tt
+small-with-slope (Sloped x y z) h m = h
+small-with-slope (SlopedLog x z) h m = h
+small-with-slope (Refused wrong) h m = tt
+
 small-line : (l : List ℕ) → Small (line l)
 unfolding line line-by
 small-line l = go (words (bare l))
@@ -92,7 +108,8 @@ small-line l = go (words (bare l))
     go [] = tt
     go (x ∷ []) = tt
     go (x ∷ w ∷ []) = small-knot x w
-    go (x ∷ w ∷ v ∷ ws) = tt
+    go (x ∷ w ∷ v ∷ []) = small-with-slope (knot x w) (small-knot x w) (signed-number v)
+    go (x ∷ w ∷ v ∷ u ∷ ws) = tt
 
 -- ---- a sheet's minutes
 
@@ -100,40 +117,42 @@ minutes-refused : (wrong n : ℕ) → Minutes (refused wrong n .minutes)
 unfolding refused
 minutes-refused wrong n = minutes-zeros most
 
-module _ (a : Sheet) (m : Minutes (a .minutes)) (n x : ℕ) (h : x < 2 ^ 16) where
-  minutes-with-knot : (y : ℤ) (log : Bool) → Minutes (with-knot a n x y log .minutes)
+minutes-cond : (b : Bool) {a a′ : Sheet} → Minutes (a .minutes) → Minutes (a′ .minutes) → Minutes (cond b a a′ .minutes)
+minutes-cond true h k = h
+minutes-cond false h k = k
+
+module _ (a : Sheet) (m : Minutes (a .minutes)) (n x : ℕ) (h : x < 2 ^ 16) (y : ℤ) (log : Bool) where
+  minutes-with-knot : (sloped : Bool) (slope : ℤ) → Minutes (with-knot a n x y log sloped slope .minutes)
   unfolding with-knot
-  minutes-with-knot y log = minutes-set (a .minutes) (a .knots) x h m
+  minutes-with-knot sloped slope = minutes-set (a .minutes) (a .knots) x h m
+
+  minutes-without-slope : Minutes (without-slope a n x y log .minutes)
+  unfolding without-slope
+  minutes-without-slope = minutes-cond (a .sloped) (minutes-refused slopeless n) (minutes-with-knot false (pos 0))
+
+  minutes-sloping : (mends : Bool) (slope : ℤ) → Minutes (sloping mends a n x y log slope .minutes)
+  unfolding sloping
+  minutes-sloping mends slope = minutes-cond mends (minutes-refused unmended n) (minutes-cond (unsloped a) (minutes-refused odd-slope n) (minutes-with-knot true slope))
 
 module _ (mends : Bool) where
   minutes-taken : (a : Sheet) → Minutes (a .minutes) → (n : ℕ) (l : Line) → Small l → Minutes (taken mends a n l .minutes)
   unfolding taken
   minutes-taken a m n Empty h = m
   minutes-taken a m n (Refused wrong) h = minutes-refused wrong n
-  minutes-taken a m n (Knot x y) h = minutes-with-knot a m n x h y false
-  minutes-taken a m n (Log x) h = minutes-with-knot a m n x h (pos 0) true
-  minutes-taken a m n (Hole x) h = go mends
-    where
-      go : (b : Bool) → Minutes (cond b (with-knot a n x hole false) (refused is-hole n) .minutes)
-      go true = minutes-with-knot a m n x h hole false
-      go false = minutes-refused is-hole n
+  minutes-taken a m n (Knot x y) h = minutes-without-slope a m n x h y false
+  minutes-taken a m n (Sloped x y z) h = minutes-sloping a m n x h y false mends z
+  minutes-taken a m n (Log x) h = minutes-without-slope a m n x h (pos 0) true
+  minutes-taken a m n (SlopedLog x z) h = minutes-sloping a m n x h (pos 0) true mends z
+  minutes-taken a m n (Hole x) h = minutes-cond mends (minutes-without-slope a m n x h hole false) (minutes-refused is-hole n)
 
   minutes-read : (a : Sheet) → Minutes (a .minutes) → (n : ℕ) (ls : List (List ℕ)) → Minutes (read mends a n ls .minutes)
   unfolding read
   minutes-read a m n [] = m
-  minutes-read a m n (l ∷ ls) = go (goes-on a) (minutes-read (taken mends a n (line l)) (minutes-taken a m n (line l) (small-line l)) (suc n) ls)
-    where
-      go : (b : Bool) → Minutes (read mends (taken mends a n (line l)) (suc n) ls .minutes) → Minutes (cond b (read mends (taken mends a n (line l)) (suc n) ls) a .minutes)
-      go true f = f
-      go false f = m
+  minutes-read a m n (l ∷ ls) = minutes-cond (goes-on a) (minutes-read (taken mends a n (line l)) (minutes-taken a m n (line l) (small-line l)) (suc n) ls) m
 
   pub minutes-typed : (s : List ℕ) → Minutes (sheet mends s .minutes)
   unfolding sheet
-  minutes-typed s = go (ltb longest (length s))
-    where
-      go : (b : Bool) → Minutes (cond b (refused too-long 0) (read mends (refused 0 0) 1 (lines s)) .minutes)
-      go true = minutes-refused too-long 0
-      go false = minutes-read (refused 0 0) (minutes-refused 0 0) 1 (lines s)
+  minutes-typed s = minutes-cond (ltb longest (length s)) (minutes-refused too-long 0) (minutes-read (refused 0 0) (minutes-refused 0 0) 1 (lines s))
 
 -- ---- with its logs
 

@@ -4,3 +4,4 @@ pub mod Gathers
 pub mod Lists
 pub mod Places
 pub mod Examples
+pub mod Slopes

@@ -2,6 +2,7 @@
 -- Assumes nothing.
 use Prim.Native.Nat.{_≤_}
 use mathlib.Core.Path.{_≡_, sym, _∙_}
+use mathlib.Core.List.{List}
 use native.Mathlib.Omega.{arith}
 use lib.IntN.{pos}
 use lib.ListN.{length, take, replicate}
@@ -31,6 +32,14 @@ module _ {a : Gathered} (r : Roomy a) where
 
   pub as-many-zeros : a .knots ≡ length (take (a .knots) (replicate most (pos 0)))
   as-many-zeros = sym (length-take-le (a .knots) (replicate most (pos 0)) (r .few))
+
+  -- any other list with as many places
+  module _ {A : Type 0} (l : List A) (places : length l ≡ most) where
+    pub list-holds : a .knots ≤ length l
+    list-holds = omega arith
+
+    pub as-many-of : a .knots ≡ length (take (a .knots) l)
+    as-many-of = sym (length-take-le (a .knots) l list-holds)
 
   pub few-minutes : length (take (a .knots) (a .minutes)) ≤ 65
   few-minutes = omega (arith, as-many-minutes, r .few)

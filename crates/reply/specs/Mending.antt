@@ -8,6 +8,7 @@ use lib.Dec.{eqb}
 use lib.IntN.{ℤ, pos}
 use lib.ListN.{length, take, replicate}
 use Rattle.answer.specs.Answer.{number, place}
+use Rattle.curve.specs.Kind.{quintic}
 use Rattle.knots.specs.Lent.{lent}
 use Rattle.fit.specs.Promise.{slopes-after, curvatures-after}
 use Rattle.holes.specs.Hole.{mended}
@@ -30,10 +31,10 @@ room = places
 abbrev pub mend-reply : ToKnots
 mend-reply xs ys ms Ms faults lines card =
     let f = mend xs ys (length ms) (length Ms) room in
-    reply-of (number f) (place f) (lent xs (ordinates-after f ys) (slopes-after f ms) (curvatures-after f Ms) 0 0) faults lines card
+    reply-of quintic (number f) (place f) (lent xs (ordinates-after f ys) (slopes-after f ms) (curvatures-after f Ms) 0 0) faults lines card
 
 abbrev pub mending-reply : (text logs card : List ℕ) → Reply
-mending-reply = text-reply true mend-reply
+mending-reply = text-reply true (λ a. mend-reply)
 
 -- the changes of these knots
 abbrev pub knots-plan : (xs : List ℕ) (ys ms Ms : List ℤ) → Plan

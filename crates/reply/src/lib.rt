@@ -4,6 +4,7 @@ use gather::Knot;
 use mend::Plan;
 use rows::End;
 use text::Sheet;
+use writer::Written;
 ghost use mathlib.Core.Path.{_≡_};
 ghost use mathlib.Core.Bool.{true, false, cond};
 ghost use mathlib.Core.List.{[]};
@@ -11,11 +12,12 @@ ghost use Prim.Native.Nat.{_≤_, _<_};
 ghost use lib.ListN.{length, getD};
 ghost use Rattle.knots.specs.Lent.{lent};
 ghost use Rattle.words.specs.Said.{wrong-line};
+ghost use Rattle.writer.specs.Promise.{Writes};
 ghost use Rattle.gather.specs.Gathered.{plain, logged};
 ghost use Rattle.text.specs.Sheet.{most, sheet as sheet-of, blamed as blamed-word};
 ghost use Rattle.reply.specs.Knots.{log-at, gathered};
 ghost use Rattle.reply.specs.Mending.{mend-reply, mending-reply, knots-plan, text-plan, Mends};
-ghost use Rattle.reply.specs.Reply.{of-a-log, of-a-knot, blamed, refusing, refusing-knots, reply-of, fit-reply, reply, Answers};
+ghost use Rattle.reply.specs.Reply.{of-a-log, of-a-knot, blamed, refusing, refusing-knots, form-kind, form-left, form-right, reply-of, fit-reply, by-slopes, reply, Answers};
 
 // The logs of a sheet as they were read: for knot i, the byte at SLOT * i says how many bytes its log has, and they stand behind it; a log too long for its slot is told as 61 bytes, one more than a log may have.
 pub const SLOT: usize = 62;
@@ -139,16 +141,40 @@ fn refuse_knots(number: u32, place: u32, lines: [u32; Sheet::MOST], to: &mut [u8
     }
 }
 
-// Knots that were fitted, or refused with this number at this place: what is said of them, and the card with these codes of its ends.
+// Which card the knots are answered with: one with these codes of its ends, or one of given slopes.
+pub enum Form {
+    Codes(u16, u16),
+    Slopes,
+}
+
+// The card in the form of its kind.
+fn write(
+    form: Form,
+    minutes: &[u16],
+    ordinates: &[i16],
+    slopes: &[i32],
+    curvatures: &[i32],
+    card: &mut [u8],
+) -> Written
+    ensures { λ r. ⌜ Writes (form-kind form) (lent (now (minutes .entry)) (now (ordinates .entry)) (now (slopes .entry)) (now (curvatures .entry)) (form-left form) (form-right form)) (now (card .entry)) (now (card .exit)) r ⌝ }
+{
+    match form {
+        Form::Codes(left, right) => {
+            writer::write(minutes, ordinates, slopes, curvatures, left, right, card)
+        }
+        Form::Slopes => writer::write_slopes(minutes, ordinates, slopes, curvatures, card),
+    }
+}
+
+// Knots that were fitted, or refused with this number at this place: what is said of them, and the card in its form.
 fn told(
+    form: Form,
     number: u32,
     place: u32,
     minutes: &[u16],
     ordinates: &[i16],
     slopes: &[i32],
     curvatures: &[i32],
-    left: u16,
-    right: u16,
     faults: &[u8],
     lines: [u32; Sheet::MOST],
     to: &mut [u8],
@@ -156,12 +182,12 @@ fn told(
 ) -> Answered
     requires { ⌜ (length (now ordinates) ≡ length (now minutes)) × (length (now slopes) ≡ length (now minutes)) × (length (now curvatures) ≡ length (now minutes)) ⌝ }
     requires { ⌜ (length (now minutes) ≤ 65) × (4096 ≤ length (now to)) ⌝ }
-    ensures { λ r. ⌜ Answers (reply-of number place (lent (now (minutes .entry)) (now (ordinates .entry)) (now (slopes .entry)) (now (curvatures .entry)) left right) (now (faults .entry)) lines (now (card .entry))) (now (to .entry)) (now (to .exit)) (now (card .exit)) r ⌝ }
+    ensures { λ r. ⌜ Answers (reply-of (form-kind form) number place (lent (now (minutes .entry)) (now (ordinates .entry)) (now (slopes .entry)) (now (curvatures .entry)) (form-left form) (form-right form)) (now (faults .entry)) lines (now (card .entry))) (now (to .entry)) (now (to .exit)) (now (card .exit)) r ⌝ }
 {
     if number != 0 {
         return refuse_knots(number, place, lines, to);
     }
-    let written = writer::write(minutes, ordinates, slopes, curvatures, left, right, card);
+    let written = write(form, minutes, ordinates, slopes, curvatures, card);
     let length = listing::list(0, 0, minutes, ordinates, slopes, curvatures, faults, to);
     Answered {
         status: Answered::DONE,
@@ -189,14 +215,89 @@ fn fit_lists(
 {
     let fitted = fit::fit_between(minutes, ordinates, slopes, curvatures, left, right);
     told(
+        Form::Codes(ends::code(left), ends::code(right)),
         fitted.number,
         fitted.place,
         minutes,
         ordinates,
         slopes,
         curvatures,
-        ends::code(left),
-        ends::code(right),
+        faults,
+        lines,
+        to,
+        card,
+    )
+}
+
+// The slopes are given, one for each knot, and only the curvatures fitted.
+fn slope_lists(
+    minutes: &[u16],
+    ordinates: &[i16],
+    slopes: &[i32],
+    curvatures: &mut [i32],
+    faults: &[u8],
+    lines: [u32; Sheet::MOST],
+    to: &mut [u8],
+    card: &mut [u8],
+) -> Answered
+    requires { ⌜ (length (now ordinates) ≡ length (now minutes)) × (length (now slopes) ≡ length (now minutes)) × (length (now curvatures) ≡ length (now minutes)) ⌝ }
+    requires { ⌜ (length (now minutes) ≤ 65) × (4096 ≤ length (now to)) ⌝ }
+    ensures { λ r. ⌜ Answers (by-slopes (now (slopes .entry)) (now (minutes .entry)) (now (ordinates .entry)) [] (now (curvatures .entry)) (now (faults .entry)) lines (now (card .entry))) (now (to .entry)) (now (to .exit)) (now (card .exit)) r ⌝ }
+{
+    let fitted = slope_fit::fit(minutes, ordinates, slopes, curvatures);
+    told(
+        Form::Slopes,
+        fitted.number,
+        fitted.place,
+        minutes,
+        ordinates,
+        slopes,
+        curvatures,
+        faults,
+        lines,
+        to,
+        card,
+    )
+}
+
+// By the given slopes, or between these ends where there are none.
+fn sheet_lists(
+    sloped: bool,
+    minutes: &[u16],
+    ordinates: &[i16],
+    given: &[i32],
+    slopes: &mut [i32],
+    curvatures: &mut [i32],
+    left: End,
+    right: End,
+    faults: &[u8],
+    lines: [u32; Sheet::MOST],
+    to: &mut [u8],
+    card: &mut [u8],
+) -> Answered
+    requires { ⌜ (length (now ordinates) ≡ length (now minutes)) × (length (now given) ≡ length (now minutes)) × (length (now slopes) ≡ length (now minutes)) × (length (now curvatures) ≡ length (now minutes)) ⌝ }
+    requires { ⌜ (length (now minutes) ≤ 65) × (4096 ≤ length (now to)) ⌝ }
+    ensures { λ r. ⌜ Answers (cond sloped (by-slopes (now (given .entry))) (fit-reply left right) (now (minutes .entry)) (now (ordinates .entry)) (now (slopes .entry)) (now (curvatures .entry)) (now (faults .entry)) lines (now (card .entry))) (now (to .entry)) (now (to .exit)) (now (card .exit)) r ⌝ }
+{
+    if sloped {
+        return slope_lists(
+            minutes,
+            ordinates,
+            given,
+            curvatures,
+            faults,
+            lines,
+            to,
+            card,
+        );
+    }
+    fit_lists(
+        minutes,
+        ordinates,
+        slopes,
+        curvatures,
+        left,
+        right,
         faults,
         lines,
         to,
@@ -218,7 +319,7 @@ fn complain(text: &[u8], wrong: u32, line: u32, to: &mut [u8]) -> Answered
     }
 }
 
-// The knots of a sheet, with the logs that it names, and their fit between these ends. The sheet is the text's.
+// The knots of a sheet, with the logs that it names, and their fit by its slopes, or between these ends where it has none. The sheet is the text's.
 pub fn answer(
     text: &[u8],
     sheet: Sheet,
@@ -235,6 +336,8 @@ pub fn answer(
         return complain(text, sheet.wrong, sheet.line, to);
     }
     let lines = sheet.lines;
+    let sloped = sheet.sloped;
+    let given = sheet.slopes;
     let all = gathered(sheet, logs);
     if all.number != 0 {
         return refuse_knots(all.number, all.place, lines, to);
@@ -245,9 +348,11 @@ pub fn answer(
     let faults = all.faults;
     let mut slopes = [0i32; Sheet::MOST];
     let mut curvatures = [0i32; Sheet::MOST];
-    fit_lists(
+    sheet_lists(
+        sloped,
         &minutes[..n],
         &ordinates[..n],
+        &given[..n],
         &mut slopes[..n],
         &mut curvatures[..n],
         left,
@@ -291,14 +396,13 @@ fn mend_lists(
 {
     let plan = mend::mend(minutes, ordinates, slopes, curvatures, Mending::ROOM);
     let answered = told(
+        Form::Codes(0, 0),
         plan.number,
         plan.place,
         minutes,
         ordinates,
         slopes,
         curvatures,
-        0,
-        0,
         faults,
         lines,
         to,

@@ -1,5 +1,6 @@
 -- `reply::fit_lists` meets its contract, by what the fit answers and by the codes of its ends. Assumes nothing.
 use denote.Ref.{now}
+use Rattle.curve.specs.Kind.{quintic}
 use borrow.Author.Needs.{needs}
 use Rattle.reply.proofs.Replies.{answers-as, replies-fitted}
 use Rattle.reply.proofs.fit_lists.Statement.{statement}
@@ -7,12 +8,13 @@ use Rattle.reply.proofs.fit_lists.Tie as tie
 
 returns : tie.Need-returns
 returns c =
-    let coded = c .before .before .before .before .before .before .before in
-    let fitted = coded .before .before .before .before .before .before in
+    let told = c .before .before .before .before in
+    let coded = told .before .before .before .before .before in
+    let fitted = coded .before .before .before .before in
     let a = fitted .before .before .before .before .before .before .before .args in
     answers-as
-    (replies-fitted (fitted .fit-between .ensures) (coded .before .code .ensures) (coded .code2 .ensures) (now (a .minutes)) (now (a .ordinates)) (now (a .faults)) (a .lines) (now (a .card)))
-    (c .before .before .before .before .told .ensures)
+    (replies-fitted quintic (fitted .fit-between .ensures) (coded .before .code .ensures) (coded .code2 .ensures) (now (a .minutes)) (now (a .ordinates)) (now (a .faults)) (a .lines) (now (a .card)))
+    (told .told .ensures)
 
 pub fit-lists-spec : {M : Type 1} → statement M
 fit-lists-spec =

@@ -25,7 +25,7 @@ returns c =
     let s = c .before .before .before .before .before .before .before .before .before .before .before .before in
     let wrong = c .before .before .before .before .before .if1 .taken in
     record {
-      answers = replies-wrong true mend-reply (now (s .args .text)) _ (s .pre .0) (now (s .args .card)) wrong (c .before .before .before .complain .ensures);
+      answers = replies-wrong true (λ a. mend-reply) (now (s .args .text)) _ (s .pre .0) (now (s .args .card)) wrong (c .before .before .before .complain .ensures);
       changes = c .unchanged .ensures ∙ plans-nothing (now (s .args .text)) _ (s .pre .0) wrong;
       lines = refl;
     }
@@ -37,7 +37,7 @@ returns-2 c =
     let all = c .before .before .before .before .before .before .before .gathered .ensures in
     let refused = c .before .before .before .before .before .if2 .taken in
     record {
-      answers = replies-log true mend-reply (now (s .args .text)) _ (s .pre .0) (now (s .args .card)) z all refused (c .before .before .before .refuse-knots .ensures);
+      answers = replies-log true (λ a. mend-reply) (now (s .args .text)) _ (s .pre .0) (now (s .args .card)) z all refused (c .before .before .before .refuse-knots .ensures);
       changes = c .unchanged2 .ensures ∙ plans-log (now (s .args .text)) _ (s .pre .0) z all refused;
       lines = refl;
     }
@@ -85,7 +85,7 @@ returns-3 c =
     let accepted : g .gathered .result .number ≡ 0 = omega (arith, c .before .before .before .before .before .before .before .before .before .before .before .before .before .before .before .before .before .before .if2 .left) in
     let m = c .before .before .before .before .before .before .before .mend-lists .ensures in
     record {
-      answers = answers-as (replies-knots true mend-reply (now (s .args .text)) _ (s .pre .0) (now (s .args .card)) z (g .gathered .ensures) accepted) (m .answers);
+      answers = answers-as (replies-knots true (λ a. mend-reply) (now (s .args .text)) _ (s .pre .0) (now (s .args .card)) z (g .gathered .ensures) accepted) (m .answers);
       changes = m .changes ∙ plans-knots (now (s .args .text)) _ (s .pre .0) z (g .gathered .ensures) accepted;
       lines = m .lines;
     }
