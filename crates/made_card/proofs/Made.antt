@@ -88,7 +88,7 @@ module _ {K : Kind} (known : Known K) (f : Answer Card) (numbers : Never 0 f) (c
       writes =
           let many = good K c (sound gives) .many in
           let most = limits known .most in
-          both-accept (sound gives) (accepts-refuse 26 0 (le-ltb _ _ (omega (arith, many, most))))
+          both-accept (sound gives) (accepts-refuse 26 0 (le-ltb (length buffer) (size (knots c)) (omega (arith, many, most))))
 
       replies : its-reply f ≡ with-card
       unfolding reply-of number place listing-of lent-after written
@@ -158,7 +158,7 @@ module _ (mends : Bool) (s logs buffer : List ℕ) where
   module _ (room : size (quintic .most-knots) ≤ length buffer) where
     -- what is shown of the lent lists' lengths is of the number of knots
     with-places : {K : Kind} (f : ℕ → Answer Card) {r : Reply} → Made K (f (length zeros)) faults r → Made K (f n) faults r
-    with-places f m = subst (λ k. Made _ (f k) faults _) as-many m
+    with-places {K} f {r} m = subst (λ k. Made K (f k) faults r) as-many m
 
     fit-made : (left right : End) → answered (fit-reply left right) .status ≡ 48 → Made quintic (fit-between xs ys n n left right) faults (answered (fit-reply left right))
     unfolding card-of
@@ -200,9 +200,9 @@ module _ (mends : Bool) (s logs buffer : List ℕ) where
   -- the reply to the text is that to its knots
   made-by : {K : Kind} {f : Answer Card} (to-knots : Sheet → ToKnots) → text-reply mends to-knots s logs buffer .status ≡ 48
       → (answered (to-knots (sheet mends s)) .status ≡ 48 → Made K f faults (answered (to-knots (sheet mends s)))) → Made K f faults (text-reply mends to-knots s logs buffer)
-  made-by to-knots e m =
+  made-by {K} {f} to-knots e m =
       let is = knots-answered to-knots e in
-      subst (λ r. Made _ _ faults r) (sym is) (m (ap (λ r. r .status) (sym is) ∙ e))
+      subst (λ r. Made K f faults r) (sym is) (m (ap (λ r. r .status) (sym is) ∙ e))
 
 pub made-card : (left right : End) (s logs buffer : List ℕ) → size (quintic .most-knots) ≤ length buffer → reply left right s logs buffer .status ≡ 48
     → Made (sheet-kind s) (sheet-fit left right s logs) (sheet-faults false s logs) (reply left right s logs buffer)

@@ -1,7 +1,7 @@
 -- The numbers of an accepted card, of either kind, are of their types: the kinds have the same limits.
 -- Assumes nothing.
 use Prim.Native.Nat.{ℕ, _≤_, _<_}
-use mathlib.Core.Path.{_≡_, refl}
+use mathlib.Core.Path.{_≡_, refl, subst}
 use mathlib.Core.Logic.{inl, inr}
 use mathlib.Core.Bool.{false}
 use mathlib.Core.List.{List}
@@ -27,7 +27,7 @@ use Rattle.kaihveto.specs.Types.{Minutes}
 record Bounds (K : Kind) : Type 0 where
   ordinates : K .ordinates ≡ quintic .ordinates
   slopes : K .slopes ≡ quintic .slopes
-  curvatures : (gap : ℕ) → K .curvatures gap ≡ quintic .curvatures gap
+  curvatures : (gap : ℕ) → K .curvatures gap ≡ quintic .curvatures 0
   codes : (code : ℕ) → K .no-code code ≡ false → code ≤ 2
 
 bounds : {K : Kind} → Known K → Bounds K
@@ -61,10 +61,10 @@ typed {K} known c e x =
     r = ranged c (accepts-each (in-range K c) 0 (length (c .minutes)) (λ i p l. g .ranged i (omega arith)))
 
     ordinates : (i : ℕ) → natAbs (getD (c .ordinates) i (pos 0)) ≤ quintic .ordinates
-    ordinates = everywhere (c .ordinates) (quintic .ordinates) (λ j l. omega (arith, b .ordinates, ltb-false _ _ (g .y-in j (omega (arith, g .ys)))))
+    ordinates = everywhere (c .ordinates) (quintic .ordinates) (λ j l. subst (λ most. natAbs (getD (c .ordinates) j (pos 0)) ≤ most) (b .ordinates) (ltb-false _ _ (g .y-in j (omega (arith, g .ys)))))
 
     slopes : (i : ℕ) → natAbs (getD (c .slopes) i (pos 0)) ≤ quintic .slopes
-    slopes = everywhere (c .slopes) (quintic .slopes) (λ j l. omega (arith, b .slopes, r .slopes j (omega (arith, g .ms))))
+    slopes = everywhere (c .slopes) (quintic .slopes) (λ j l. subst (λ most. natAbs (getD (c .slopes) j (pos 0)) ≤ most) (b .slopes) (r .slopes j (omega (arith, g .ms))))
 
     curvatures : (i : ℕ) → natAbs (getD (c .curvatures) i (pos 0)) ≤ quintic .curvatures 0
-    curvatures = everywhere (c .curvatures) (quintic .curvatures 0) (λ j l. omega (arith, b .curvatures _, r .curvatures j (omega (arith, g .Ms))))
+    curvatures = everywhere (c .curvatures) (quintic .curvatures 0) (λ j l. subst (λ most. natAbs (getD (c .curvatures) j (pos 0)) ≤ most) (b .curvatures _) (r .curvatures j (omega (arith, g .Ms))))

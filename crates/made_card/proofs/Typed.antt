@@ -117,9 +117,9 @@ minutes-refused : (wrong n : ℕ) → Minutes (refused wrong n .minutes)
 unfolding refused
 minutes-refused wrong n = minutes-zeros most
 
-minutes-cond : (b : Bool) {a a′ : Sheet} → Minutes (a .minutes) → Minutes (a′ .minutes) → Minutes (cond b a a′ .minutes)
-minutes-cond true h k = h
-minutes-cond false h k = k
+minutes-cond : (b : Bool) (a a′ : Sheet) → Minutes (a .minutes) → Minutes (a′ .minutes) → Minutes (cond b a a′ .minutes)
+minutes-cond true a a′ h k = h
+minutes-cond false a a′ h k = k
 
 module _ (a : Sheet) (m : Minutes (a .minutes)) (n x : ℕ) (h : x < 2 ^ 16) (y : ℤ) (log : Bool) where
   minutes-with-knot : (sloped : Bool) (slope : ℤ) → Minutes (with-knot a n x y log sloped slope .minutes)
@@ -128,11 +128,11 @@ module _ (a : Sheet) (m : Minutes (a .minutes)) (n x : ℕ) (h : x < 2 ^ 16) (y 
 
   minutes-without-slope : Minutes (without-slope a n x y log .minutes)
   unfolding without-slope
-  minutes-without-slope = minutes-cond (a .sloped) (minutes-refused slopeless n) (minutes-with-knot false (pos 0))
+  minutes-without-slope = minutes-cond (a .sloped) _ _ (minutes-refused slopeless n) (minutes-with-knot false (pos 0))
 
   minutes-sloping : (mends : Bool) (slope : ℤ) → Minutes (sloping mends a n x y log slope .minutes)
   unfolding sloping
-  minutes-sloping mends slope = minutes-cond mends (minutes-refused unmended n) (minutes-cond (unsloped a) (minutes-refused odd-slope n) (minutes-with-knot true slope))
+  minutes-sloping mends slope = minutes-cond mends _ _ (minutes-refused unmended n) (minutes-cond (unsloped a) _ _ (minutes-refused odd-slope n) (minutes-with-knot true slope))
 
 module _ (mends : Bool) where
   minutes-taken : (a : Sheet) → Minutes (a .minutes) → (n : ℕ) (l : Line) → Small l → Minutes (taken mends a n l .minutes)
@@ -143,16 +143,16 @@ module _ (mends : Bool) where
   minutes-taken a m n (Sloped x y z) h = minutes-sloping a m n x h y false mends z
   minutes-taken a m n (Log x) h = minutes-without-slope a m n x h (pos 0) true
   minutes-taken a m n (SlopedLog x z) h = minutes-sloping a m n x h (pos 0) true mends z
-  minutes-taken a m n (Hole x) h = minutes-cond mends (minutes-without-slope a m n x h hole false) (minutes-refused is-hole n)
+  minutes-taken a m n (Hole x) h = minutes-cond mends _ _ (minutes-without-slope a m n x h hole false) (minutes-refused is-hole n)
 
   minutes-read : (a : Sheet) → Minutes (a .minutes) → (n : ℕ) (ls : List (List ℕ)) → Minutes (read mends a n ls .minutes)
   unfolding read
   minutes-read a m n [] = m
-  minutes-read a m n (l ∷ ls) = minutes-cond (goes-on a) (minutes-read (taken mends a n (line l)) (minutes-taken a m n (line l) (small-line l)) (suc n) ls) m
+  minutes-read a m n (l ∷ ls) = minutes-cond (goes-on a) _ _ (minutes-read (taken mends a n (line l)) (minutes-taken a m n (line l) (small-line l)) (suc n) ls) m
 
   pub minutes-typed : (s : List ℕ) → Minutes (sheet mends s .minutes)
   unfolding sheet
-  minutes-typed s = minutes-cond (ltb longest (length s)) (minutes-refused too-long 0) (minutes-read (refused 0 0) (minutes-refused 0 0) 1 (lines s))
+  minutes-typed s = minutes-cond (ltb longest (length s)) _ _ (minutes-refused too-long 0) (minutes-read (refused 0 0) (minutes-refused 0 0) 1 (lines s))
 
 -- ---- with its logs
 
