@@ -9,12 +9,8 @@ use knots::Kind;
 use opened::Opened;
 use swing::Swung;
 use text::Sheet;
-ghost use mathlib.Core.Path.{_≡_};
 ghost use Prim.Native.Nat.{_+_, _<_};
-ghost use Rattle.answer.specs.Answer.{accepted};
-ghost use Rattle.curve.specs.Kind.{quintic};
-ghost use Rattle.curve.specs.Orders.{verdict};
-ghost use Rattle.decode.specs.Decoded.{decoded, Full};
+ghost use Rattle.opened.specs.Readable.{Readable};
 
 // ---- what is cared for
 
@@ -159,8 +155,7 @@ fn warn_gap(
     card: Card,
     i: usize,
 ) -> u8
-    requires { ⌜ Full card ⌝ }
-    requires { ⌜ verdict quintic (decoded card) ≡ accepted ⌝ }
+    requires { ⌜ Readable card ⌝ }
     requires { ⌜ (0 < i) × (i < card .knots) ⌝ }
 {
     let swing = swing::gap(card, i - 1);
@@ -193,8 +188,7 @@ fn warn_gap(
 }
 
 fn warn_gaps(name: &[u8], aloud: bool, lines: [u32; Sheet::MOST], bound: u32, card: Card) -> u8
-    requires { ⌜ Full card ⌝ }
-    requires { ⌜ verdict quintic (decoded card) ≡ accepted ⌝ }
+    requires { ⌜ Readable card ⌝ }
 {
     let knots = card.knots;
     let mut status = crate::tell::DONE;
