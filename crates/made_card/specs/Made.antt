@@ -1,5 +1,5 @@
--- The card that a sheet's text, with the logs that it names, is answered with: the fit of the sheet's knots, by their
--- slopes where they have them, or of the mended ones, in bytes that the card's test accepts.
+-- The card that a sheet's text, with the logs that it names, is answered with: the fit of the sheet's knots, by
+-- their slopes where they have them, or of the mended ones, in bytes that the card's test accepts.
 -- Assumes nothing.
 use Prim.Native.Nat.{ℕ}
 use mathlib.Core.Path.{_≡_}
@@ -35,7 +35,7 @@ sheet-knots mends s logs = gathered (sheet mends s) logs
 abbrev pub sheet-kind : (text : List ℕ) → Kind
 sheet-kind s = cond (sheet false s .sloped) sloped quintic
 
--- their fit, into as many places as there are knots: by their slopes, or between these ends where they have none
+-- their fit, into as many places as there are knots: by their slopes, or between these ends without them
 abbrev pub sheet-fit : (left right : End) → (text logs : List ℕ) → Answer Card
 sheet-fit left right s logs =
     let a = sheet false s in

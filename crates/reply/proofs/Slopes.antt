@@ -1,5 +1,5 @@
--- Sheets whose lines have slopes: Table 3's knots and slopes are answered with its curvatures, in a card of kind 6;
--- 9 for a slope, with its line. Computed from the definitions; assumes nothing.
+-- Sheets whose lines have slopes: Table 3's knots and slopes are answered with its curvatures, in a card of
+-- kind 6; and 9 for a slope, with its line. Computed from the definitions; assumes nothing.
 use Prim.Native.Nat.{ℕ}
 use Prim.Native.String.{String}
 use mathlib.Core.Path.{_≡_, refl}

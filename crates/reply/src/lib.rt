@@ -142,7 +142,7 @@ fn refuse_knots(number: u32, place: u32, lines: [u32; Sheet::MOST], to: &mut [u8
 }
 
 // Which card the knots are answered with: one with these codes of its ends, or one of given slopes.
-pub enum Form {
+enum Form {
     Codes(u16, u16),
     Slopes,
 }
@@ -166,7 +166,8 @@ fn write(
     }
 }
 
-// Knots that were fitted, or refused with this number at this place: what is said of them, and the card in its form.
+// Knots that were fitted, or refused with this number at this place: what is said of them, and the card in its
+// form.
 fn told(
     form: Form,
     number: u32,
@@ -319,7 +320,8 @@ fn complain(text: &[u8], wrong: u32, line: u32, to: &mut [u8]) -> Answered
     }
 }
 
-// The knots of a sheet, with the logs that it names, and their fit by its slopes, or between these ends where it has none. The sheet is the text's.
+// The knots of a sheet, with the logs that it names, and their fit: by the sheet's slopes, or between these ends
+// where it has none. The sheet is the text's.
 pub fn answer(
     text: &[u8],
     sheet: Sheet,
