@@ -2,3 +2,4 @@ pub mod Numbers
 pub mod Typed
 pub mod Made
 pub mod Logless
+pub mod Ends
