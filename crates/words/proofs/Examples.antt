@@ -37,7 +37,7 @@ logs = (refl, refl, refl, refl)
 pub wrongs :
     (wrong-line 1 4 (spelled "5.5") ≡ said ":4: '5.5' is not a whole number; hundredths are whole: write 550 for 5.5 %")
     × (wrong-line 1 4 (195 ∷ 164 ∷ []) ≡ said ":4: this word is not a whole number; hundredths are whole: write 550 for 5.5 %")
-    × (wrong-line 6 0 [] ≡ said ": the text is longer than 65535 bytes: no sheet is") × (wrong-line 7 4 (spelled "-") ≡ said ":4: '-' is a hole: kaihveto mend fills it")
+    × (wrong-line 6 0 [] ≡ said ": the text is longer than 65535 bytes: no sheet is") × (wrong-line 7 4 (spelled "-") ≡ said ":4: '-' is a hole: kaihveto mend fills it, in a sheet without slopes")
     × (wrong-line 8 4 (spelled "@") ≡ said ":4: '@' asks for the name of a log's file: write MINUTE @FILE")
 unfolding spelled digits marks stop plain sentence at-line shown wrong-line
 wrongs = (refl, refl, refl, refl, refl)

@@ -62,7 +62,7 @@ wrongs =
     ∷ "stands alone: a knot is a minute and an ordinate, or a minute and @FILE for a log"
     ∷ "is one word too many: a knot is a minute, an ordinate or @FILE for a log, whose name has no blank here, and behind that its slope if it has one"
     ∷ "is longer than 65535 bytes: no sheet is"
-    ∷ "is a hole: kaihveto mend fills it"
+    ∷ "is a hole: kaihveto mend fills it, in a sheet without slopes"
     ∷ "asks for the name of a log's file: write MINUTE @FILE"
     ∷ "is no slope: behind an ordinate or @FILE, whose name has no blank here, stands nothing or a whole number of card units, with no zero in front"
     ∷ "has no slope behind it, and the knots before have one: give every knot its slope in card units, or none"
