@@ -14,25 +14,24 @@ use Rattle.answer.proofs.Never.{Never}
 use Rattle.front.specs.Front.{listed}
 use Rattle.front.proofs.Listed.{length-listed}
 use Rattle.answer.proofs.Steps.{first-accepts, next-accepts}
-use Rattle.curve.specs.Kind.{quintic}
+use Rattle.curve.specs.Kind.{Kind}
 use Rattle.curve.specs.Card.{Card, knots}
 use Rattle.curve.specs.Log as Log
 use Rattle.curve.specs.Reading.{Reading}
 use Rattle.curve.specs.Steps.{size}
 use Rattle.curve.specs.Orders.{write-order, reading-order}
-use Rattle.curve.proofs.Accepted.{Good, good}
+use Rattle.curve.proofs.Accepted.{Good}
 use Rattle.log.specs.declared.Mean.{Mean}
 use Rattle.log.specs.Answers as Log-answers
 use Rattle.minutes.specs.Search.{found}
 use Rattle.lists.specs.declared.CardReading.{CardReading}
 use Rattle.lists.specs.Lists as Lists-answers
 use Rattle.fit.specs.Promise.{Fits, slopes-after, curvatures-after}
-use Rattle.fit.proofs.Card.{places-lent, places-written}
-use Rattle.fit.proofs.Numbered.{fit-numbered}
-use Rattle.card_bytes.specs.Bytes.{quintic-head, bytes-of}
+use Rattle.card_bytes.specs.Bytes.{bytes-of}
 use Rattle.card_bytes.specs.Held.{card-of}
+use Rattle.card_bytes.specs.Records.{kind-by}
 use Rattle.card_bytes.proofs.Sizes.{length-card}
-use Rattle.card_bytes.proofs.RoundTrip.{accepted-card}
+use Rattle.card_bytes.proofs.ByHead.{accepted-good}
 use Rattle.card.specs.declared.Checked.{Checked}
 use Rattle.card.specs.Answers.{own, checked, read-off}
 use Rattle.card.specs.Promise.{Lists, into, Reads}
@@ -46,13 +45,14 @@ use Rattle.swing.specs.Swing.{swung}
 use Rattle.card.proofs.Lists.{Taken, order-takes, taken}
 use Rattle.writer.specs.declared.Written.{Written}
 use Rattle.writer.specs.Promise.{written, Writes}
-use Rattle.writer.proofs.Ready.{ready-of}
+use Rattle.writer.proofs.Ready.{has-room}
 use Rattle.refit.specs.declared.Refitted.{Refitted}
 use Rattle.refit.specs.Fresh.{fresh, refit}
 use Rattle.refit.specs.Promise.{refitted, after, Refits}
 use Rattle.refit.proofs.Renewal.{fresh-places}
 use Rattle.demands.specs.Calls.{Fitting, the-fit}
 use Rattle.demands.specs.Demands.{Is-given, Says, Spares, No-card, No-swing, Fit-says, Fit-spares}
+use Rattle.demands.proofs.Jobs.{named-by, fit-by-numbered, curvature-places}
 use Rattle.demands.proofs.Numbered.{says, accepts, mean-numbered, write-numbered, card-numbered, into-numbered, reading-numbered, table-numbered, refit-numbered}
 
 -- ---- lent lists
@@ -118,43 +118,40 @@ spares-all {v} {n} {p} {k} {entry} {exit} s after e none all = record { refused 
         let long : length exit ≡ k = ap length (e ∙ ap (λ v. after v entry) (g .is)) ∙ l .0 in
         (long ∙ sym (l .1), behind exit long ∙ sym (behind entry (l .1)))
 
-module _ (f : Fitting) (named : Never 0 (f .named)) (fits : Fits (the-fit f) (f .slopes) (f .curvatures) (f .slopes′) (f .curvatures′) (f .answer)) where
+module _ (f : Fitting) (named : Never 0 (named-by (f .job))) (fits : Fits (the-fit f) (f .slopes) (f .curvatures) (f .slopes′) (f .curvatures′) (f .answer)) where
   pub fit-says : Fit-says f
   fit-says =
-      says (the-fit f) (fit-numbered (f .minutes) (f .ordinates) (f .left) (f .right) _ _ named) (ap (λ r. r .number) (fits .answer)) (ap (λ r. r .place) (fits .answer))
+      says (the-fit f) (fit-by-numbered (f .job) (f .minutes) (f .ordinates) _ _ named) (ap (λ r. r .number) (fits .answer)) (ap (λ r. r .place) (fits .answer))
 
-  pub fit-spares : Fit-spares f
-  fit-spares = (spares-all fit-says slopes-after (fits .slopes) (λ n p. refl) all, spares-all fit-says curvatures-after (fits .curvatures) (λ n p. refl) all′)
-    where
-      all : (c : Card) → the-fit f ≡ given c → (length (c .slopes) ≡ length (f .minutes)) × (length (f .slopes) ≡ length (f .minutes))
-      all c is = (places-written (f .minutes) (f .ordinates) (f .left) (f .right) _ _ (f .named) is .0, places-lent (f .minutes) (f .ordinates) (f .left) (f .right) _ _ (f .named) is .0)
+  pub curvatures-spared : Spares (f .answer .number) (length (f .minutes)) (f .curvatures) (f .curvatures′)
+  curvatures-spared = spares-all fit-says curvatures-after (fits .curvatures) (λ n p. refl) (λ c is. curvature-places (f .minutes) (f .ordinates) _ _ (f .job) is)
 
-      all′ : (c : Card) → the-fit f ≡ given c → (length (c .curvatures) ≡ length (f .minutes)) × (length (f .curvatures) ≡ length (f .minutes))
-      all′ c is = (places-written (f .minutes) (f .ordinates) (f .left) (f .right) _ _ (f .named) is .1, places-lent (f .minutes) (f .ordinates) (f .left) (f .right) _ _ (f .named) is .1)
+  pub fit-spares : ((c : Card) → the-fit f ≡ given c → (length (c .slopes) ≡ length (f .minutes)) × (length (f .slopes) ≡ length (f .minutes))) → Fit-spares f
+  fit-spares lent = (spares-all fit-says slopes-after (fits .slopes) (λ n p. refl) lent, curvatures-spared)
 
 -- ---- a card
 
-card-fields : (v : Verdict) (c : Card) → (let r = checked v c in (r .number ≡ number v) × (r .place ≡ place v) × No-card r)
+card-fields : (v : Verdict) (K : Kind) (c : Card) → (let r = checked v K c in (r .number ≡ number v) × (r .place ≡ place v) × No-card r)
 unfolding checked number place
-card-fields (refused n p) c = (refl, refl, λ h. (refl, refl, refl))
-card-fields (given u) c = (refl, refl, λ h. absurd (h refl))
+card-fields (refused n p) K c = (refl, refl, λ h. (refl, refl, refl, refl))
+card-fields (given u) K c = (refl, refl, λ h. absurd (h refl))
 
-card-answers : (v : Verdict) (c : Card) {r : Checked} → Never 0 v → r ≡ checked v c → Says v (r .number) (r .place) × No-card r
-card-answers v c n e = let f = card-fields v c in subst (λ r. Says v (r .number) (r .place) × No-card r) (sym e) (says v n (f .0) (f .1), f .2)
+card-answers : (v : Verdict) (K : Kind) (c : Card) {r : Checked} → Never 0 v → r ≡ checked v K c → Says v (r .number) (r .place) × No-card r
+card-answers v K c n e = let f = card-fields v K c in subst (λ r. Says v (r .number) (r .place) × No-card r) (sym e) (says v n (f .0) (f .1), f .2)
 
-pub check-answers : (s : List ℕ) {r : Checked} → r ≡ checked (own s) (card-of s) → Says (own s) (r .number) (r .place) × No-card r
-check-answers s e = card-answers (own s) (card-of s) (card-numbered s) e
+pub check-answers : (s : List ℕ) {r : Checked} → r ≡ checked (own s) (kind-by s) (card-of s) → Says (own s) (r .number) (r .place) × No-card r
+check-answers s e = card-answers (own s) (kind-by s) (card-of s) (card-numbered s) e
 
 module _ {s : List ℕ} {entry exit : Lists} {r : Checked} (reads : Reads s entry exit r) where
   pub read-answers : Says (into entry s) (r .number) (r .place) × No-card r
-  read-answers = card-answers (into entry s) (card-of s) (into-numbered entry s) (reads .answer)
+  read-answers = card-answers (into entry s) (kind-by s) (card-of s) (into-numbered entry s) (reads .answer)
 
   counts : into entry s ≡ accepted → knots (card-of s) ≡ r .knots
   unfolding checked
-  counts a = sym (ap (λ r. r .knots) (reads .answer ∙ ap (λ v. checked v (card-of s)) a))
+  counts a = sym (ap (λ r. r .knots) (reads .answer ∙ ap (λ v. checked v (kind-by s) (card-of s)) a))
 
-  holds : into entry s ≡ accepted → Good quintic (card-of s)
-  holds a = good quintic (card-of s) (accepted-card quintic quintic-head s (taken entry s a .own))
+  holds : into entry s ≡ accepted → Good (kind-by s) (card-of s)
+  holds a = accepted-good s (taken entry s a .own)
 
   pub read-spares :
       Spares (r .number) (r .knots) (entry .minutes) (exit .minutes)
@@ -174,27 +171,26 @@ module _ {s : List ℕ} {entry exit : Lists} {r : Checked} (reads : Reads s entr
 
 -- ---- the writer
 
-module _ {c : Card} {entry exit : List ℕ} {r : Written} (writes : Writes c entry exit r) where
+module _ {K : Kind} {c : Card} {entry exit : List ℕ} {r : Written} (writes : Writes K c entry exit r) where
   write-fields : (v : Verdict) (k : ℕ) → (let r = written v k in (r .number ≡ number v) × (r .place ≡ place v) × (r .number ≢ 0 → r .bytes ≡ 0))
   unfolding written number place
   write-fields (refused n p) k = (refl, refl, λ h. refl)
   write-fields (given u) k = (refl, refl, λ h. absurd (h refl))
 
-  pub write-answers : Says (write-order quintic c (length entry)) (r .number) (r .place) × (r .number ≢ 0 → r .bytes ≡ 0)
+  pub write-answers : Says (write-order K c (length entry)) (r .number) (r .place) × (r .number ≢ 0 → r .bytes ≡ 0)
   write-answers =
-      let v = write-order quintic c (length entry) in
+      let v = write-order K c (length entry) in
       let f = write-fields v (size (knots c)) in
-      subst (λ r. Says v (r .number) (r .place) × (r .number ≢ 0 → r .bytes ≡ 0)) (sym (writes .answer)) (says v (write-numbered c (length entry)) (f .0) (f .1), f .2)
+      subst (λ r. Says v (r .number) (r .place) × (r .number ≢ 0 → r .bytes ≡ 0)) (sym (writes .answer)) (says v (write-numbered K c (length entry)) (f .0) (f .1), f .2)
 
-  pub long-as-the-card : write-order quintic c (length entry) ≡ accepted → r .bytes ≡ size (knots c)
+  pub long-as-the-card : write-order K c (length entry) ≡ accepted → r .bytes ≡ size (knots c)
   unfolding written
   long-as-the-card a = ap (λ r. r .bytes) (writes .answer ∙ ap (λ v. written v (size (knots c))) a)
 
   pub write-spares : Spares (r .number) (r .bytes) entry exit
-  unfolding knots
   write-spares =
-      spares (bytes-of quintic-head c) entry (write-answers .0) (writes .buffer)
-      (λ a. (length-card quintic-head c ∙ sym (long-as-the-card a), omega (arith, long-as-the-card a, ready-of c (length entry) a .room)))
+      spares (bytes-of K c) entry (write-answers .0) (writes .buffer)
+      (λ a. (length-card K c ∙ sym (long-as-the-card a), omega (arith, long-as-the-card a, has-room K c (length entry) a)))
 
 -- ---- a reading
 
@@ -274,11 +270,11 @@ module _ {s : List ℕ} {ms Ms ms′ Ms′ : List ℤ} {r : Refitted} (refits : 
 
   -- what an acceptance leaves: the order of lent lists, and the fresh fit
   module _ {d : Card} (e : order ≡ given d) where
-    lent : Taken (length ms) (length ms) (length ms) (length Ms) s
+    pub refit-takes : Taken (length ms) (length ms) (length ms) (length Ms) s
     unfolding refit
-    lent = order-takes _ _ _ _ s (first-accepts _ _ e)
+    refit-takes = order-takes _ _ _ _ s (first-accepts _ _ e)
 
-    pub refit-fits : fresh (card-of s) ≡ given d
+    pub refit-fits : fresh (kind-by s) (card-of s) ≡ given d
     unfolding refit
     refit-fits = next-accepts _ _ e
 
@@ -302,6 +298,6 @@ module _ {s : List ℕ} {ms Ms ms′ Ms′ : List ℤ} {r : Refitted} (refits : 
 
   pub refit-spares : Spares (r .number) (r .knots) ms ms′ × Spares (r .number) (r .knots) Ms Ms′
   refit-spares = (
-    spares-front (λ d. d .slopes) (refits .slopes) (λ d e. (fresh-places (card-of s) (refit-fits e) .0, lent e .room)),
-    spares-front (λ d. d .curvatures) (refits .curvatures) (λ d e. (fresh-places (card-of s) (refit-fits e) .1, omega (arith, lent e .room, lent e .curvatures))),
+    spares-front (λ d. d .slopes) (refits .slopes) (λ d e. (fresh-places (kind-by s) (card-of s) (refit-fits e) .0, refit-takes e .room)),
+    spares-front (λ d. d .curvatures) (refits .curvatures) (λ d e. (fresh-places (kind-by s) (card-of s) (refit-fits e) .1, omega (arith, refit-takes e .room, refit-takes e .curvatures))),
   )

@@ -12,7 +12,6 @@ use lib.Seq.{take-at, drop-at}
 use Rattle.answer.specs.Answer.{Answer, refused, given, accepted, number, place, _then_}
 use Rattle.answer.proofs.Never.{Never, given-never, never-then, never-refuse, never-number}
 use Rattle.bytes.specs.Numbers.{Bytes}
-use Rattle.card_bytes.specs.Held.{card-of}
 use Rattle.card.specs.Answers.{own}
 use Rattle.book.specs.Book.{Entry, entry-at, book-bytes, size, closes, holds, next, _giving_, scan, rising, book}
 use Rattle.book.specs.Lookup.{in-use, held, look-up, part, before, rooms, spot-at, spot}
@@ -25,7 +24,7 @@ use Rattle.bookkeeping.specs.Card.{card-in}
 use Rattle.kaihveto.specs.Types.{Room}
 use Rattle.bookkeeping.proofs.Kept.{was-put, put-is-book, put-is-found, cards-stay, others-as-before}
 use Rattle.demands.specs.Calls.{A-book-find, the-book, the-room}
-use Rattle.demands.specs.Demands.{Says, Spares, Holds-a-book, Hands-back, Half-a-unit}
+use Rattle.demands.specs.Demands.{Says, Spares, Holds-a-book, Hands-back, Half-a-unit-held}
 use Rattle.demands.proofs.Numbered.{says, card-numbered}
 use Rattle.demands.proofs.NeverTen.{own-never}
 
@@ -197,8 +196,8 @@ handed-back c =
 
 -- ---- never 10
 
-pub find-never : (room : ℕ) (s : List ℕ) → ((c : List ℕ) → card-in room s ≡ given c → Half-a-unit (card-of c)) → number (look-up room s) ≢ 10
+pub find-never : (room : ℕ) (s : List ℕ) → ((c : List ℕ) → card-in room s ≡ given c → Half-a-unit-held c) → number (look-up room s) ≢ 10
 find-never room s half = never-number _ (lit< tt) (look-up-never 10 (λ z. omega arith) (λ z. omega arith) s (λ z. omega arith) room (λ c q. own-never c (half c q)))
 
-pub puts-never : (room : ℕ) (card s : List ℕ) → Half-a-unit (card-of card) → number (put room card s) ≢ 10
+pub puts-never : (room : ℕ) (card s : List ℕ) → Half-a-unit-held card → number (put room card s) ≢ 10
 puts-never room card s half = never-number _ (lit< tt) (put-never 10 (λ z. omega arith) (λ z. omega arith) s (λ z. omega arith) room card (own-never card half))

@@ -2,33 +2,45 @@
 -- Assumes nothing.
 use mathlib.Core.Path.{_≡_, refl, sym, ap, ap₂, subst, _∙_}
 use mathlib.Core.Logic.{_≢_}
-use mathlib.Core.List.{List}
+use mathlib.Core.List.{List, []}
 use Prim.Native.Nat.{ℕ}
+use borrow.Author.Tests.{eq-eqb}
+use lib.IntN.{ℤ}
 use lib.ListN.{length}
-use Rattle.answer.specs.Answer.{Answer, accepted, number, place}
+use Rattle.answer.specs.Answer.{Answer, accepted, _then_, refuse, number, place}
 use Rattle.answer.proofs.Never.{given-never}
-use Rattle.curve.specs.Kind.{quintic}
-use Rattle.curve.specs.Card.{knots}
-use Rattle.card_bytes.specs.Bytes.{quintic-head}
+use Rattle.answer.proofs.Steps.{first-accepts, next-accepts, accepts-refuse}
+use Rattle.curve.specs.Kind.{quintic, sloped}
 use Rattle.card_bytes.specs.Held.{card-of}
-use Rattle.card_bytes.proofs.RoundTrip.{accepted-card}
+use Rattle.card_bytes.specs.Records.{kind-by}
+use Rattle.card_bytes.proofs.ByHead.{known-by, accepted-count}
 use Rattle.card.specs.Answers.{own, read-off}
 use Rattle.table.specs.Promise.{table-verdict, Tables}
 use Rattle.swing.specs.Swing.{swung}
 use Rattle.book.specs.Lookup.{look-up, part}
 use Rattle.exact_fit.proofs.Solution.{one-exact}
-use Rattle.demands.specs.Calls.{A-fit, A-fit-between, without-ends, between-ends, A-write, written-card, buffer, A-check, checked-bytes, A-read, read-bytes, places, places′, reading-bytes, minute, A-table, table-bytes, from, lists-for, lists-for′, swing-bytes, first-minute, log, sheet-minutes, sheet, A-book-find, the-book, the-room, the-part, A-book-put, put-book, put-book′, put-room, put-card}
-use Rattle.demands.specs.Demands.{Fit-says, Accepts-as, Room-for, front, written-bytes, Off, Demand-1, Demand-2, Demand-3, Demands}
+use Rattle.curve.specs.Card.{knots}
+use Rattle.curve.specs.Steps.{lengths, codes}
+use Rattle.curve.proofs.Accepted.{same-lengths}
+use Rattle.knots.specs.Lent.{lent}
+use Rattle.exists.specs.Sound.{Sound}
+use Rattle.slope_fit.specs.SlopesFit.{standing}
+use Rattle.sloped.specs.Sloped as Sloped
+use Rattle.sloped.proofs.Sloped.{one-solution}
+use Rattle.demands.specs.Calls.{A-fit, A-fit-between, A-fit-slopes, without-ends, between-ends, by-slopes, buffer, A-check, checked-bytes, read-bytes, places, reading-bytes, minute, A-table, table-bytes, from, lists-for, lists-for′, swing-bytes, first-minute, log, sheet-minutes, sheet, A-book-find, the-book, the-room, the-part, A-book-put, put-book, put-book′, put-room, put-card}
+use Rattle.demands.specs.Demands.{Fit-says, Off, before-8-of-slopes, Demand-1, Demand-2, Demand-3, Demands}
 use Rattle.fit.proofs.Numbered.{codes-numbered}
 use Rattle.demands.proofs.Numbered.{accepts}
-use Rattle.demands.proofs.Answered.{mean-answers, fit-says, fit-spares, check-answers, read-answers, read-spares, write-answers, write-spares, reading-answers, table-answers, table-spares, swing-answers, refit-answers, refit-spares}
+use Rattle.demands.proofs.Jobs.{slope-places}
+use Rattle.demands.proofs.Writers.{promises, known-writer, same-head}
+use Rattle.demands.proofs.Answered.{mean-answers, fit-says, curvatures-spared, fit-spares, check-answers, read-answers, read-spares, write-answers, write-spares, reading-answers, table-answers, table-spares, swing-answers, refit-answers, refit-spares}
 use Rattle.demands.proofs.Given.{eliminates, mean-given}
-use Rattle.demands.proofs.FitToCard.{default-rests, default-is-kept, between-is-kept, read-back}
+use Rattle.demands.proofs.FitToCard.{default-rests, default-is-kept, between-is-kept, sloped-is-kept, read-back}
 use Rattle.demands.proofs.Anew.{fresh-eliminates, fresh-is-kept}
 use Rattle.demands.proofs.MendedSheet.{mend-answers, mend-spares, mend-eliminates, one-mended-solution, mended-is-kept, mend-lists, mend-put-back}
 use Rattle.demands.proofs.Books.{find-answers, put-answers, put-spares, leaves-a-book, is-found, others-cards, others-found, part-is, part-passes, handed-back, find-never, puts-never}
-use Rattle.demands.proofs.RoundTrip.{written-accepted, written-held, accepts-its-card, reads-its-card, made-again}
-use Rattle.demands.proofs.Off.{stands-on-a-gap, of-card, close, at-knots, looks, gap-left, on-its-card, in-table, table-counted}
+use Rattle.demands.proofs.RoundTrip.{written-accepted, written-held, written-headed, accepted-as, accepts-its-card, reads-its-card, made-again}
+use Rattle.demands.proofs.Off.{stands-on-a-gap, of-card, within-2, flat-ends, close, at-knots, looks, gap-left, on-its-card, in-table, table-counted}
 use Rattle.demands.proofs.Swung.{swings}
 use Rattle.demands.proofs.NeverTen.{codes-never, written-never, checked-never, read-never, read-off-never, table-never, fitted-never, mended-never, refitted-never}
 
@@ -40,6 +52,9 @@ fits c = fit-says (without-ends c) given-never (c .promised)
 fits-between : (c : A-fit-between) → Fit-says (between-ends c)
 fits-between c = fit-says (between-ends c) (codes-numbered quintic _ _) (c .promised)
 
+fits-to-slopes : (c : A-fit-slopes) → Fit-says (by-slopes c)
+fits-to-slopes c = fit-says (by-slopes c) given-never (c .promised)
+
 one : Demand-1
 one =
     record {
@@ -47,11 +62,13 @@ one =
       mean-zeros = λ c. mean-answers (first-minute c) (log c) (c .promised .0) .1;
       fit = fits;
       fit-between = fits-between;
-      fit-spares = λ c. fit-spares (without-ends c) given-never (c .promised);
-      fit-between-spares = λ c. fit-spares (between-ends c) (codes-numbered quintic _ _) (c .promised);
-      write = λ c. write-answers (c .promised .0) .0;
-      write-zeros = λ c. write-answers (c .promised .0) .1;
-      write-spares = λ c. write-spares (c .promised .0);
+      fit-slopes = fits-to-slopes;
+      fit-spares = λ c. fit-spares (without-ends c) given-never (c .promised) (λ d e. slope-places _ _ _ _ _ _ _ e);
+      fit-between-spares = λ c. fit-spares (between-ends c) (codes-numbered quintic _ _) (c .promised) (λ d e. slope-places _ _ _ _ _ _ _ e);
+      fit-slopes-spares = λ c. curvatures-spared (by-slopes c) given-never (c .promised);
+      write = λ w. write-answers (promises w .0) .0;
+      write-zeros = λ w. write-answers (promises w .0) .1;
+      write-spares = λ w. write-spares (promises w .0);
       check = λ c. check-answers (checked-bytes c) (c .promised .0) .0;
       check-zeros = λ c. check-answers (checked-bytes c) (c .promised .0) .1;
       read = λ c. read-answers (c .promised) .0;
@@ -108,9 +125,11 @@ two =
     record {
       fit = λ c zero. eliminates (without-ends c) (c .promised) (fits c .accepts zero);
       fit-between = λ c zero. eliminates (between-ends c) (c .promised) (fits-between c .accepts zero);
+      fit-slopes = λ c zero. eliminates (by-slopes c) (c .promised) (fits-to-slopes c .accepts zero);
       fit-rests = λ c zero. default-rests c (fits c .accepts zero);
       fitted-is-kept = λ c zero. default-is-kept c (fits c .accepts zero);
       between-is-kept = λ c zero. between-is-kept c (fits-between c .accepts zero);
+      sloped-is-kept = λ c zero. sloped-is-kept c (fits-to-slopes c .accepts zero);
       refit = fresh-eliminates;
       fresh-is-kept = fresh-is-kept;
       mend = mend-eliminates;
@@ -118,12 +137,18 @@ two =
       mend-lists = mend-lists;
       mend-put-back = mend-put-back;
       mean = λ c zero. mean-given (first-minute c) (log c) (c .promised .0) (c .promised .1) (mean-answers (first-minute c) (log c) (c .promised .0) .0 .accepts zero);
+      check-tells = λ c zero. accepted-as (kind-by (checked-bytes c)) (card-of (checked-bytes c)) (c .promised .0) (tested c zero);
+      read-tells = λ r zero. accepted-as (kind-by (read-bytes r)) (card-of (read-bytes r)) (r .promised .answer) (accepts (read-answers (r .promised) .0) zero);
       written-is-checked = λ w c zero same.
-          accepts-its-card (checked-bytes c) (written-held (w .promised .0) (w .promised .1) zero same) (c .promised .0) (written-accepted (w .promised .0) (w .promised .1) zero same);
+          let p = promises w in
+          let known = known-writer w in
+          accepts-its-card (checked-bytes c) (written-headed (p .0) known (p .1) zero same) (written-held (p .0) known (p .1) zero same) (c .promised .0) (written-accepted (p .0) known (p .1) zero same);
       written-is-read = read-back;
-      checked-is-written = λ c r w zero same read-zero again long.
-          made-again (checked-bytes c) (c .promised .1) (tested c zero)
-          (again ∙ reads-its-card (r .promised) (accepts (read-answers (r .promised) .0) read-zero) ∙ ap card-of same) (w .promised .0) long;
+      checked-is-written = λ c r w zero told same read-zero again long.
+          let s = checked-bytes c in
+          let is = accepted-as (kind-by s) (card-of s) (c .promised .0) (tested c zero) in
+          made-again s (c .promised .1) (tested c zero) (same-head (known-writer w) (known-by s) (told ∙ is .kind))
+          (again ∙ reads-its-card (r .promised) (accepts (read-answers (r .promised) .0) read-zero) ∙ ap card-of same) (promises w .0) long;
       put-leaves-a-book = λ p zero. leaves-a-book (put-room p) (put-card p) (p .promised .0) (p .promised .1 .0) (p .promised .1 .1) zero;
       put-is-found = found-again;
       hands-back = handed-back;
@@ -143,7 +168,7 @@ table-accepted t same zero = accepts (table-answers (table-of t same) .0) zero
 off : (s : List ℕ) → own s ≡ accepted → Off s
 off s a =
     record {
-      gaps = stands-on-a-gap (card-of s) (accepted-card quintic quintic-head s a);
+      gaps = stands-on-a-gap (card-of s) (accepted-count s a .some);
       close = λ r same h. close s a (minute r) h (r .promised ∙ ap (λ s. read-off s (minute r)) same);
       at-knots = λ r same i l there. at-knots s a i l (r .promised ∙ ap₂ read-off same there);
       looks = λ r same h. looks s a (minute r) h (r .promised ∙ ap (λ s. read-off s (minute r)) same);
@@ -155,14 +180,35 @@ off s a =
       table-counts = λ t same zero. table-counted s a (table-of t same) (table-accepted t same zero);
       swings = λ w same. swings s a (w .promised ∙ ap (λ s. swung (own s) (card-of s)) same);
       jumps = of-card s a .jumps;
+      within-2 = within-2 s a;
+      flat-ends = flat-ends s a;
     }
+
+no-codes : codes sloped 0 0 ≡ accepted
+unfolding codes sloped refuse _then_
+no-codes = refl
+
+-- a sheet with slopes that the fit to them does not refuse before 8 has one exact solution
+slopes-solution : (xs : List ℕ) (ys ms : List ℤ) → before-8-of-slopes xs ys ms ≡ accepted → Sloped.OneSolution (lent xs ys ms [] 0 0)
+unfolding standing lengths knots
+slopes-solution xs ys ms e =
+    let n = length xs in
+    let rest = next-accepts (lengths n (length ys) (length ms) n) _ e in
+    let long = same-lengths n (length ys) (length ms) n (first-accepts _ _ e) in
+    let sound : Sound sloped (lent xs ys ms [] 0 0) = record {
+      same-length = accepts-refuse 3 0 (rw (long .0, eq-eqb n n refl));
+      few-and-many = first-accepts _ _ rest;
+      coded = no-codes;
+      each-stands = first-accepts _ _ (next-accepts _ _ rest);
+    } in
+    one-solution (lent xs ys ms [] 0 0) sound
 
 three : Demand-3
 three =
     record {
       off = λ c zero. off (checked-bytes c) (tested c zero);
       found-off = λ c zero. off (the-part c) (part-passes (the-room c) (the-book c) (c .promised) zero);
-      write-never-10 = λ c half e. written-never half (length (buffer c)) (sym (one .write c .number) ∙ e);
+      write-never-10 = λ w half e. written-never (known-writer w) half (length (buffer w)) (sym (one .write w .number) ∙ e);
       check-never-10 = λ c half e. checked-never (checked-bytes c) half (sym (one .check c .number) ∙ e);
       read-never-10 = λ c half e. read-never (read-bytes c) half (places c) (sym (one .read c .number) ∙ e);
       reading-never-10 = λ c half e. read-off-never (reading-bytes c) half (minute c) (sym (one .reading c .number) ∙ e);
@@ -171,10 +217,12 @@ three =
       book-find-never-10 = λ c half e. find-never (the-room c) (the-book c) half (sym (one .book-find c .number) ∙ e);
       book-put-never-10 = λ c half e. puts-never (put-room c) (put-card c) (put-book c) half (sym (one .book-put c .number) ∙ e);
       fit-never-10 = λ c half e. fitted-never (without-ends c) given-never half (sym (fits c .number) ∙ e);
-      fit-between-never-10 = λ c half e. fitted-never (between-ends c) (codes-never _ _) half (sym (fits-between c .number) ∙ e);
+      fit-between-never-10 = λ c half e. fitted-never (between-ends c) (codes-never quintic _ _) half (sym (fits-between c .number) ∙ e);
+      fit-slopes-never-10 = λ c half e. fitted-never (by-slopes c) given-never half (sym (fits-to-slopes c .number) ∙ e);
       mend-never-10 = λ c half e. mended-never (sheet-minutes c) (sheet c) _ _ _ half (sym (one .mend c .number) ∙ e);
       refit-never-10 = λ c half fresh e. refitted-never c half fresh (sym (one .refit c .number) ∙ e);
       exact-solution = one-exact;
+      slopes-solution = slopes-solution;
       mended-solution = one-mended-solution;
     }
 

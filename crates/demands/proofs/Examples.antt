@@ -1,9 +1,10 @@
 -- The page is of something: each function accepts a call. Table 3's knots are accepted by the fit without
--- ends and between free ends; its card is accepted by the writer, its bytes by the card test, the reader, a
+-- ends, between free ends and to Table 3's slopes, whose card is written and told as of kind 6; its card is accepted by the writer, its bytes by the card test, the reader, a
 -- reading, a table, the swing and the fresh fit, and it is within half a unit of an exact solution, as are
 -- the numbers of these fits; it is put into a book and found there. P7's knots with a hole are mended, and
 -- P8's log has a mean. Assumes nothing.
 use mathlib.Core.Path.{_≡_, refl, sym, ap, ap₂, _∙_, subst}
+use mathlib.Core.Logic.{inl, inr}
 use mathlib.Core.List.{List, [], _∷_, _++_}
 use Prim.Native.Nat.{ℕ, zero, suc, _+_}
 use native.Mathlib.Omega.{arith}
@@ -17,8 +18,8 @@ use Rattle.answer.specs.Answer.{Answer, refused, given, accepted, _then_, refus
 use Rattle.answer.specs.Lent.{lent-after}
 use Rattle.answer.proofs.Steps.{not-both, first-accepts, next-accepts, both-accept, accepts-refuse}
 use Rattle.front.specs.Front.{listed}
-use Rattle.curve.specs.Kind.{quintic}
-use Rattle.curve.specs.Card.{knots, knot}
+use Rattle.curve.specs.Kind.{quintic, sloped}
+use Rattle.curve.specs.Card.{Card, knots, knot}
 use Rattle.curve.specs.Steps.{lengths, counted as counted′, codes, size, room}
 use Rattle.curve.specs.Log.{mean}
 use Rattle.curve.specs.Orders.{verdict, card-order, lists-order, write-order, reading-order, reading}
@@ -26,9 +27,11 @@ use Rattle.curve.proofs.Gap.{card-in}
 use Rattle.curve.proofs.Cases.{table-3, line, p1, shown, value-slope, mean-from, cases, hold}
 use Rattle.curve.proofs.Witness.{table-3-exact, table-3-near}
 use Rattle.minutes.specs.Search.{middle, look, looking, every-gap, found}
-use Rattle.card_bytes.specs.Bytes.{quintic-head, bytes-of}
+use Rattle.card_bytes.specs.Bytes.{bytes-of}
 use Rattle.card_bytes.specs.Held.{card-of}
-use Rattle.card_bytes.specs.Records.{card-verdict}
+use Rattle.card_bytes.specs.Records.{kind-by, card-verdict}
+use Rattle.card_bytes.proofs.ByHead as ByHead
+use Rattle.card_bytes.proofs.ByHead.{written-kind}
 use Rattle.card_bytes.proofs.Table3.{table-3-bytes}
 use Rattle.card_bytes.proofs.Sizes.{length-card}
 use Rattle.card.specs.Answers.{own, checked, read-off}
@@ -46,6 +49,9 @@ use Rattle.fit.specs.Fit.{fit, fit-codes}
 use Rattle.fit.specs.Promise.{answered, slopes-after, curvatures-after}
 use Rattle.fit.proofs.Card.{its-card}
 use Rattle.fit.proofs.Table3.{fits-are}
+use Rattle.slope_fit.specs.SlopesFit.{slopes-fit}
+use Rattle.slope_fit.proofs.Card as Slopes
+use Rattle.slope_fit.proofs.Rows.{rows-hold}
 use Rattle.holes.specs.Hole.{hole, mended}
 use Rattle.mend.specs.Changes.{changes}
 use Rattle.mend.specs.Order.{mend}
@@ -66,14 +72,17 @@ use Rattle.book_put.specs.Put.{entry, put-in, after}
 use Rattle.book_put.proofs.Answers.{fits}
 use Rattle.bookkeeping.proofs.Inverse.{no-room}
 use Rattle.kaihveto.specs.Types.{Minutes, Room}
-use Rattle.demands.specs.Calls.{A-mean, A-fit, A-fit-between, without-ends, between-ends, card-between, worked-out, A-write, written-card, A-check, A-read, A-reading, A-table, A-swing, A-refit, anew, A-mend, of-the-mended, A-book-put, A-book-find}
-use Rattle.demands.specs.Demands.{Is-given, Room-for, On-the-card, Half-a-unit}
+use Rattle.demands.specs.Calls.{A-mean, A-fit, A-fit-between, A-fit-slopes, without-ends, between-ends, card-between, by-slopes, worked-out, A-write, A-write-slopes, with-codes, with-slopes, written-card, A-check, A-read, A-reading, A-table, A-swing, fresh-job, A-refit, anew, A-mend, of-the-mended, A-book-put, A-book-find}
+use Rattle.demands.specs.Demands.{Is-given, Room-for, On-the-card, Half-a-unit, Half-a-unit-held}
+use Rattle.demands.proofs.Numbers.{typed}
+use Rattle.demands.proofs.Jobs as Jobs
+use Rattle.demands.proofs.Jobs.{fresh-by-job}
 use Rattle.demands.proofs.Written.{card-bytes}
-use Rattle.demands.proofs.Witnesses.{rest-is-near, line-is-near}
+use Rattle.demands.proofs.Witnesses.{rest-is-near, line-is-near, sloped-is-near}
 use Rattle.demands.proofs.Demands.{hold as hold-all}
 
 abbrev bytes : List ℕ
-bytes = bytes-of quintic-head p1
+bytes = bytes-of quintic p1
 
 -- P1's reading is given, so its card is accepted
 shown-given : {A : Type 0} (f : A → List ℤ) (v : Answer A) {l : List ℤ} → shown f v ≡ given l → Is-given v
@@ -85,21 +94,28 @@ pub card-accepted : verdict quintic p1 ≡ accepted
 unfolding cases value-slope reading reading-order
 card-accepted = first-accepts _ _ (shown-given _ (reading quintic p1 4) (ap (λ l. getD l 0 (refused 0 0)) hold) .is)
 
-pub bytes-accepted : own bytes ≡ accepted
+-- by its head it is document 01's
+its-kind : kind-by bytes ≡ quintic
+its-kind = written-kind (inl refl) p1
+
+passes-as-quintic : card-verdict quintic bytes ≡ accepted
 unfolding card-verdict card-order verdict p1 table-3 knots
-bytes-accepted =
+passes-as-quintic =
     let counted = next-accepts (lengths 5 5 5 5) _ card-accepted in
     let coded = next-accepts (counted′ quintic 5) _ counted in
     let sound = next-accepts (codes quintic 0 0) _ coded in
     rw (table-3-bytes .2) (both-accept (table-3-bytes .3) (both-accept (first-accepts _ _ counted) (both-accept (first-accepts _ _ coded) (both-accept (table-3-bytes .4) sound))))
 
+pub bytes-accepted : own bytes ≡ accepted
+bytes-accepted = ap (λ K. card-verdict K bytes) its-kind ∙ passes-as-quintic
+
 -- within half a unit of an exact solution
-p1-is-near : Half-a-unit p1
+p1-is-near : Half-a-unit quintic p1
 unfolding p1
 p1-is-near = record { exact = table-3-exact; near = table-3-near }
 
-pub half : Half-a-unit (card-of bytes)
-half = subst Half-a-unit (sym (table-3-bytes .2)) p1-is-near
+pub half : Half-a-unit-held bytes
+half = subst (λ K. Half-a-unit K (card-of bytes)) (sym its-kind) (subst (Half-a-unit quintic) (sym (table-3-bytes .2)) p1-is-near)
 
 -- minute 4 stands on it
 pub minute-4 : On-the-card p1 4
@@ -122,7 +138,7 @@ minutes-typed (suc (suc (suc (suc (suc i))))) = lit< tt
 
 writes : write-order quintic p1 (length bytes) ≡ accepted
 unfolding write-order room
-writes = both-accept card-accepted (accepts-refuse 26 0 (le-ltb (length bytes) (size (knots p1)) (omega (arith, length-card quintic-head p1))))
+writes = both-accept card-accepted (accepts-refuse 26 0 (le-ltb (length bytes) (size (knots p1)) (omega (arith, length-card quintic p1))))
 
 -- P8
 abbrev log-of-p8 : List ℕ
@@ -159,7 +175,22 @@ fits-by-codes = fits-are .0
 
 refits : refit (length (p1 .slopes)) (length (p1 .curvatures)) bytes ≡ given p1
 unfolding refit into p1 table-3 knots
-refits = both-accept reads-into (ap fresh (table-3-bytes .2) ∙ free-is-fit-between p1 refl refl ∙ fits-are .0)
+refits = both-accept reads-into (ap₂ fresh its-kind (table-3-bytes .2) ∙ free-is-fit-between p1 refl refl ∙ fits-are .0)
+
+-- its fit to its own slopes is the card itself
+pub fits-to-slopes : slopes-fit (p1 .minutes) (p1 .ordinates) (p1 .slopes) (length (p1 .curvatures)) ≡ given p1
+unfolding p1 table-3
+fits-to-slopes = rows-hold .0
+
+-- of which there are bytes with the head of the second kind
+abbrev sloped-p1 : Card
+sloped-p1 = lent (p1 .minutes) (p1 .ordinates) (p1 .slopes) (p1 .curvatures) 0 0
+
+sloped-accepted : verdict sloped sloped-p1 ≡ accepted
+sloped-accepted = subst (λ c. verdict sloped c ≡ accepted) (Slopes.its-own _ _ _ _ fits-to-slopes) (Slopes.accepted-card _ _ _ _ fits-to-slopes)
+
+abbrev sloped-bytes : List ℕ
+sloped-bytes = bytes-of sloped sloped-p1
 
 -- and its list of slopes for each column of a table
 abbrev columns-for : Columns
@@ -177,7 +208,7 @@ empty-book = book-bytes [] ++ (bytes ++ le 6 0)
 
 pub empty-typed : Bytes empty-book
 unfolding book-bytes header
-empty-typed = bytes-append (le 2 0 ++ le 2 3) (bytes ++ le 6 0) (bytes-append (le 2 0) (le 2 3) (le-bytes 2 0) (le-bytes 2 3)) (bytes-append bytes (le 6 0) (card-bytes quintic-head p1) (le-bytes 6 0))
+empty-typed = bytes-append (le 2 0 ++ le 2 3) (bytes ++ le 6 0) (bytes-append (le 2 0) (le 2 3) (le-bytes 2 0) (le-bytes 2 3)) (bytes-append bytes (le 6 0) (card-bytes quintic p1) (le-bytes 6 0))
 
 pub room-typed : Room 3
 unfolding Room
@@ -187,7 +218,7 @@ puts : Put.put 3 bytes empty-book ≡ given (entry 3 bytes ∷ [])
 unfolding Put.put _giving_ book-bytes header put-in book-size p1 table-3 knots
 puts =
     let n : length empty-book ≡ 104 = simp (length-append, length-le, length-card) (omega arith) in
-    let k : length bytes ≡ 94 = length-card quintic-head p1 in
+    let k : length bytes ≡ 94 = length-card quintic p1 in
     rw (no-room (bytes ++ le 6 0)) (both-accept bytes-accepted (fits (entry 3 bytes) (length empty-book) [] (omega arith) (omega arith)))
 
 module _ (lifetime : Lft) (pointer : ℕ × ℕ) (name : GName) where
@@ -231,12 +262,74 @@ module _ (lifetime : Lft) (pointer : ℕ × ℕ) (name : GName) where
   fit-between-accepts = ap (λ v. answered v .number) fits-by-codes
 
   -- the numbers that both work out are near an exact solution
-  pub fits-are-near : Half-a-unit (worked-out (without-ends fit-call)) × Half-a-unit (worked-out (between-ends fit-between-call))
+  pub fits-are-near : Half-a-unit quintic (worked-out (without-ends fit-call)) × Half-a-unit quintic (worked-out (between-ends fit-between-call))
   unfolding p1 table-3
   fits-are-near = (
-    subst Half-a-unit (its-card _ _ _ _ _ _ _ (fits-are .1)) rest-is-near,
-    subst Half-a-unit (its-card _ _ _ _ _ _ _ fits-by-codes) p1-is-near,
+    subst (Half-a-unit quintic) (its-card _ _ _ _ _ _ _ (fits-are .1)) rest-is-near,
+    subst (Half-a-unit quintic) (its-card _ _ _ _ _ _ _ fits-by-codes) p1-is-near,
   )
+
+  -- to its own slopes
+  abbrev pub fit-slopes-call : A-fit-slopes
+  fit-slopes-call =
+      let f = slopes-fit (p1 .minutes) (p1 .ordinates) (p1 .slopes) (length (p1 .curvatures)) in
+      let xs = list (p1 .minutes) in
+      let ys = list (p1 .ordinates) in
+      let ms = list (p1 .slopes) in
+      record {
+        lifetimes = (lifetime, (lifetime, (lifetime, (lifetime, tt))));
+        arguments = (xs, (ys, (ms, (list (p1 .curvatures), tt))));
+        answer = answered f;
+        exit = (xs, (ys, (ms, (list (curvatures-after f (p1 .curvatures)), tt))));
+        promised = record { answer = refl; slopes = sym (ap (λ v. slopes-after v (p1 .slopes)) fits-to-slopes); curvatures = refl };
+      }
+
+  pub fit-slopes-accepts : fit-slopes-call .answer .number ≡ 0
+  unfolding number
+  fit-slopes-accepts = ap (λ v. answered v .number) fits-to-slopes
+
+  pub fit-to-slopes-is-near : Half-a-unit sloped (worked-out (by-slopes fit-slopes-call))
+  fit-to-slopes-is-near = subst (Half-a-unit sloped) (Slopes.its-card _ _ _ _ fits-to-slopes) sloped-is-near
+
+  -- which is written as of the second kind,
+  abbrev pub write-slopes-call : A-write-slopes
+  write-slopes-call =
+      let v = write-order sloped sloped-p1 (length sloped-bytes) in
+      let xs = list (p1 .minutes) in
+      let ys = list (p1 .ordinates) in
+      let ms = list (p1 .slopes) in
+      let Ms = list (p1 .curvatures) in
+      record {
+        lifetimes = (lifetime, (lifetime, (lifetime, (lifetime, (lifetime, tt)))));
+        arguments = (xs, (ys, (ms, (Ms, (list sloped-bytes, tt)))));
+        answer = written v (size (knots sloped-p1));
+        exit = (xs, (ys, (ms, (Ms, (list (lent-after v sloped-bytes sloped-bytes), tt)))));
+        promised = (record { answer = refl; buffer = refl }, minutes-typed);
+      }
+
+  pub write-slopes-accepts : write-slopes-call .answer .number ≡ 0
+  unfolding knots
+  write-slopes-accepts =
+      let left = sym (ap (λ v. lent (p1 .minutes) (p1 .ordinates) (p1 .slopes) (curvatures-after v (p1 .curvatures)) 0 0) fits-to-slopes) in
+      hold-all .two .sloped-is-kept fit-slopes-call fit-slopes-accepts .is-written (with-slopes write-slopes-call) refl left (omega (arith, length-card sloped sloped-p1))
+
+  -- and told as of kind 6
+  abbrev pub check-slopes-call : A-check
+  check-slopes-call =
+      record {
+        lifetimes = (lifetime, tt);
+        arguments = (list sloped-bytes, tt);
+        answer = checked (own sloped-bytes) (kind-by sloped-bytes) (card-of sloped-bytes);
+        exit = (list sloped-bytes, tt);
+        promised = (refl, card-bytes sloped sloped-p1);
+      }
+
+  pub check-tells-6 : (check-slopes-call .answer .number ≡ 0) × (check-slopes-call .answer .kind ≡ 6)
+  unfolding checked sloped
+  check-tells-6 =
+      let back = ByHead.read-back (inr refl) sloped-p1 (typed (inr refl) sloped-p1 sloped-accepted minutes-typed) sloped-accepted in
+      let zero = ap (λ v. checked v (kind-by sloped-bytes) (card-of sloped-bytes) .number) (back .accepts) in
+      (zero, hold-all .two .check-tells check-slopes-call zero .kind ∙ ap (λ K. K .head) (back .kind))
 
   abbrev pub mean-call : A-mean
   mean-call =
@@ -266,9 +359,9 @@ module _ (lifetime : Lft) (pointer : ℕ × ℕ) (name : GName) where
   unfolding line number
   mend-accepts = ap number mended-line
 
-  pub mended-is-near : Half-a-unit (worked-out (of-the-mended mend-call))
+  pub mended-is-near : Half-a-unit quintic (worked-out (of-the-mended mend-call))
   unfolding line mend
-  mended-is-near = subst Half-a-unit (its-card _ _ _ _ _ _ _ (next-accepts _ _ mended-line)) line-is-near
+  mended-is-near = subst (Half-a-unit quintic) (its-card _ _ _ _ _ _ _ (next-accepts _ _ mended-line)) line-is-near
 
   -- into lists of just the card's places
   abbrev pub refit-call : A-refit
@@ -286,16 +379,19 @@ module _ (lifetime : Lft) (pointer : ℕ × ℕ) (name : GName) where
   unfolding refitted
   refit-accepts = ap (λ v. refitted (card-of bytes) v .number) refits
 
-  pub fresh-is-near : Half-a-unit (worked-out (anew refit-call))
-  unfolding refit fresh
-  fresh-is-near = subst Half-a-unit (its-card _ _ _ _ _ _ _ (next-accepts _ _ refits)) p1-is-near
+  pub fresh-is-near : Half-a-unit (kind-by bytes) (worked-out (anew refit-call))
+  unfolding refit
+  fresh-is-near =
+      let c = card-of bytes in
+      let is = Jobs.its-card (c .minutes) (c .ordinates) (knots c) (knots c) (fresh-job (kind-by bytes) c) (sym (fresh-by-job (kind-by bytes) c) ∙ next-accepts _ _ refits) in
+      subst (λ K. Half-a-unit K (worked-out (anew refit-call))) (sym its-kind) (subst (Half-a-unit quintic) is p1-is-near)
 
   abbrev pub check-call : A-check
-  check-call = record { lifetimes = (lifetime, tt); arguments = (list bytes, tt); answer = checked (own bytes) (card-of bytes); exit = (list bytes, tt); promised = (refl, card-bytes quintic-head p1) }
+  check-call = record { lifetimes = (lifetime, tt); arguments = (list bytes, tt); answer = checked (own bytes) (kind-by bytes) (card-of bytes); exit = (list bytes, tt); promised = (refl, card-bytes quintic p1) }
 
   pub check-accepts : check-call .answer .number ≡ 0
   unfolding checked
-  check-accepts = ap (λ v. checked v (card-of bytes) .number) bytes-accepted
+  check-accepts = ap (λ v. checked v (kind-by bytes) (card-of bytes) .number) bytes-accepted
 
   abbrev pub reading-call : A-reading
   reading-call = record { lifetimes = (lifetime, tt); arguments = (list bytes, (4, tt)); answer = read-off bytes 4; exit = (list bytes, (4, tt)); promised = refl }
@@ -329,7 +425,7 @@ module _ (lifetime : Lft) (pointer : ℕ × ℕ) (name : GName) where
   write-accepts = ap (λ v. written v (size (knots p1)) .number) writes
 
   -- what it writes is what the fit between free ends leaves
-  pub writes-the-fit : written-card write-call ≡ card-between fit-between-call
+  pub writes-the-fit : written-card (with-codes write-call) ≡ card-between fit-between-call
   unfolding p1 table-3
   writes-the-fit = sym (ap (λ v. lent (p1 .minutes) (p1 .ordinates) (slopes-after v (p1 .slopes)) (curvatures-after v (p1 .curvatures)) 0 0) fits-by-codes)
 
@@ -341,7 +437,7 @@ module _ (lifetime : Lft) (pointer : ℕ × ℕ) (name : GName) where
       record {
         lifetimes = (lifetime, (lifetime, (lifetime, (lifetime, (lifetime, tt)))));
         arguments = (list bytes, (list (p1 .minutes), (list (p1 .ordinates), (list (p1 .slopes), (list (p1 .curvatures), tt)))));
-        answer = checked v c;
+        answer = checked v (kind-by bytes) c;
         exit = (
           list bytes,
           (
@@ -357,7 +453,7 @@ module _ (lifetime : Lft) (pointer : ℕ × ℕ) (name : GName) where
 
   pub read-accepts : read-call .answer .number ≡ 0
   unfolding checked
-  read-accepts = ap (λ v. checked v (card-of bytes) .number) reads-into
+  read-accepts = ap (λ v. checked v (kind-by bytes) (card-of bytes) .number) reads-into
 
   -- from minute 4 on
   abbrev pub table-call : A-table

@@ -15,17 +15,15 @@ use Rattle.curve.proofs.Middle.{stated}
 use Rattle.curve.proofs.Faults.{accepted-together, half-is-good}
 use Rattle.log.specs.declared.Mean.{Mean as Answered}
 use Rattle.log.specs.Answers.{answered}
-use Rattle.fit.specs.Fit.{card-of}
 use Rattle.fit.specs.Promise.{Fits, slopes-after, curvatures-after}
-use Rattle.fit.proofs.Card.{its-card}
 use Rattle.demands.specs.Calls.{Fitting, the-fit}
 use Rattle.demands.specs.Demands.{Is-given, Eliminates}
+use Rattle.demands.proofs.Jobs.{its-card, card-is}
 
 -- an accepted fit writes the card that its elimination gives
 pub eliminates : (f : Fitting) → Fits (the-fit f) (f .slopes) (f .curvatures) (f .slopes′) (f .curvatures′) (f .answer) → Is-given (the-fit f) → Eliminates f
-unfolding card-of
 eliminates f fits g =
-    let is = its-card (f .minutes) (f .ordinates) (f .left) (f .right) _ _ (f .named) (g .is) in
+    let is = its-card (f .minutes) (f .ordinates) _ _ (f .job) (g .is) ∙ card-is (f .job) (f .minutes) (f .ordinates) in
     record {
       slopes = fits .slopes ∙ ap (λ v. slopes-after v (f .slopes)) (g .is) ∙ ap (λ c. c .slopes) is;
       curvatures = fits .curvatures ∙ ap (λ v. curvatures-after v (f .curvatures)) (g .is) ∙ ap (λ c. c .curvatures) is;

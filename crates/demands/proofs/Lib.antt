@@ -1,3 +1,6 @@
+pub mod Numbers
+pub mod Jobs
+pub mod Writers
 pub mod Numbered
 pub mod Answered
 pub mod RoundTrip

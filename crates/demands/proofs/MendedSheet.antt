@@ -147,7 +147,7 @@ module _ (c : A-mend) where
       let g = mend-answers .0 .accepts z in
       subst (λ zs. OneSolution xs zs Free Free) (sym (sheet-mended (g .is))) (one-exact xs (mended xs ys) Free Free (taken-up (g .is)))
 
-  pub mended-is-kept : c .answer .number ≡ 0 → Kept (mended-card c)
+  pub mended-is-kept : c .answer .number ≡ 0 → Kept quintic (mended-card c)
   mended-is-kept z =
       let g = mend-answers .0 .accepts z in
       let f = of-the-mended c in

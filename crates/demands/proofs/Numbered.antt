@@ -7,14 +7,14 @@ use lib.Dec.{lit<}
 use lib.ListN.{length}
 use Rattle.answer.specs.Answer.{Answer, refused, given, Verdict, accepted, number, place}
 use Rattle.answer.proofs.Never.{Never, given-never, never-then, never-each, numbered-refuse}
-use Rattle.curve.specs.Kind.{Kind, quintic}
+use Rattle.curve.specs.Kind.{Kind}
 use Rattle.curve.specs.Card.{Card, knots}
 use Rattle.curve.specs.Log.{long, readable, some-good, half-good, reachable, mean}
 use Rattle.curve.specs.Steps.{outside, room}
 use Rattle.curve.specs.Orders.{sound, verdict, card-order, lists-order, write-order, reading-order}
 use Rattle.fit.proofs.Numbered.{lengths-numbered, counted-numbered, codes-numbered, stands-numbered, numbers-numbered}
 use Rattle.card_bytes.specs.Held.{card-of}
-use Rattle.card_bytes.specs.Records.{due, head-due, knot-due, end-due, records-due, card-verdict}
+use Rattle.card_bytes.specs.Records.{due, head-due, knot-due, end-due, records-due, kind-by, card-verdict}
 use Rattle.card.specs.Answers.{own}
 use Rattle.card.specs.Promise.{Lists, into}
 use Rattle.table.specs.Table.{table-order}
@@ -42,20 +42,21 @@ mean-numbered first log =
     (never-then (never-each 0 _ 0 (length log) (λ i l. numbered-refuse 12 i _ (lit< tt)))
     (never-then (numbered-refuse 13 0 _ (lit< tt)) (never-then (numbered-refuse 23 0 _ (lit< tt)) (never-then (numbered-refuse 19 0 _ (lit< tt)) given-never))))
 
-pub write-numbered : (c : Card) (lent : ℕ) → Never 0 (write-order quintic c lent)
+pub write-numbered : (K : Kind) (c : Card) (lent : ℕ) → Never 0 (write-order K c lent)
 unfolding write-order verdict
-write-numbered c lent =
-    never-then (never-then (lengths-numbered _ _ _ _) (never-then (counted-numbered quintic _) (never-then (codes-numbered quintic _ _) (sound-numbered quintic c)))) (room-numbered _ _)
+write-numbered K c lent =
+    never-then (never-then (lengths-numbered _ _ _ _) (never-then (counted-numbered K _) (never-then (codes-numbered K _ _) (sound-numbered K c)))) (room-numbered _ _)
 
 pub card-numbered : (s : List ℕ) → Never 0 (own s)
 unfolding card-verdict card-order head-due records-due knot-due end-due due
 card-numbered s =
     let c = card-of s in
+    let K = kind-by s in
     never-then (numbered-refuse 14 0 _ (lit< tt))
-    (never-then (counted-numbered quintic (knots c))
-    (never-then (codes-numbered quintic (c .left) (c .right))
+    (never-then (counted-numbered K (knots c))
+    (never-then (codes-numbered K (c .left) (c .right))
     (never-then (never-then (never-each 0 _ 0 (knots c) (λ i l. numbered-refuse 14 _ _ (lit< tt))) (never-then (numbered-refuse 14 _ _ (lit< tt)) (numbered-refuse 14 _ _ (lit< tt))))
-    (sound-numbered quintic c))))
+    (sound-numbered K c))))
 
 lists-numbered : (xs ys ms Ms : ℕ) (s : List ℕ) → Never 0 (lists-order xs ys ms Ms (own s) (knots (card-of s)))
 unfolding lists-order
@@ -67,7 +68,7 @@ into-numbered l s = lists-numbered _ _ _ _ s
 
 pub refit-numbered : (ms Ms : ℕ) (s : List ℕ) → Never 0 (refit ms Ms s)
 unfolding refit
-refit-numbered ms Ms s = never-then (lists-numbered _ _ _ _ s) (fresh-numbered (card-of s))
+refit-numbered ms Ms s = never-then (lists-numbered _ _ _ _ s) (fresh-numbered (kind-by s) (card-of s))
 
 pub reading-numbered : (s : List ℕ) (minute : ℕ) → Never 0 (reading-order (own s) (card-of s) minute)
 unfolding reading-order outside

@@ -5,24 +5,27 @@ use mathlib.Core.Path.{_≡_, sym, ap, subst, _∙_}
 use mathlib.Core.List.{List}
 use native.Mathlib.Decide.{decLt}
 use native.Mathlib.Omega.{arith}
-use lib.Dec.{lit≤}
 use lib.IntN.{pos}
 use lib.ListN.{length, getD}
 use Rattle.answer.specs.Answer.{accepted}
-use Rattle.curve.specs.Kind.{quintic}
+use Rattle.curve.specs.Kind.{quintic, sloped}
 use Rattle.curve.specs.Card.{Card, knots, knot, gap}
 use Rattle.curve.specs.Reading.{Reading, gap-of}
 use Rattle.curve.specs.Orders.{verdict, reading}
 use Rattle.curve.specs.Demand.{Close, On-gap, numbers, Demand3}
-use Rattle.curve.proofs.Accepted.{Good, good, minutes-rise}
+use Rattle.curve.proofs.Accepted.{minutes-rise}
 use Rattle.curve.proofs.Gap.{IsGap, gap-is}
 use Rattle.minutes.specs.Search.{found}
 use Rattle.minutes.proofs.Halving.{found-one, found-gap, found-looks, found-six}
 use Rattle.lists.specs.declared.CardReading.{CardReading}
 use Rattle.lists.specs.Lists.{answered, answer-at}
-use Rattle.card_bytes.specs.Bytes.{quintic-head}
 use Rattle.card_bytes.specs.Held.{card-of}
-use Rattle.card_bytes.proofs.RoundTrip.{demand-3-of-bytes, reads-its-card, accepted-card}
+use Rattle.card_bytes.specs.Records.{kind-by}
+use Rattle.card_bytes.proofs.RoundTrip.{reads-its-card, accepted-card}
+use Rattle.card_bytes.proofs.ByHead.{accepted-good, accepted-count, demand-3-by-head}
+use Rattle.sloped.specs.Sloped.{WithinTwo, FlatEnds}
+use Rattle.sloped.proofs.Sloped.{within-two}
+use Rattle.sloped.proofs.Ends as Ends
 use Rattle.card.specs.Answers.{own, read-off}
 use Rattle.table.specs.declared.Tabled.{Tabled}
 use Rattle.table.specs.Table.{minutes-left}
@@ -32,16 +35,16 @@ use Rattle.demands.specs.Demands.{On-the-card, A-gap, Looks}
 
 -- ---- readings
 
--- every minute of an accepted card stands on a gap of it
-pub stands-on-a-gap : (c : Card) → verdict quintic c ≡ accepted → (m : ℕ) → On-the-card c m → A-gap c m
+-- every minute of a card of enough knots stands on a gap of it
+pub stands-on-a-gap : (c : Card) → quintic .fewest-knots ≤ knots c → (m : ℕ) → On-the-card c m → A-gap c m
 unfolding knots knot quintic gap
-stands-on-a-gap c e m h = record { left-knot = i; minutes = m - getD (c .minutes) i 0; on = record { inside = g .inside; from = omega (arith, g .from); to = omega (arith, upper, g .from) } }
+stands-on-a-gap c some m h = record { left-knot = i; minutes = m - getD (c .minutes) i 0; on = record { inside = g .inside; from = omega (arith, g .from); to = omega (arith, upper, g .from) } }
   where
     i : ℕ
     i = gap-of (c .minutes) m
 
     g : IsGap (c .minutes) m i
-    g = gap-is (c .minutes) m (h .0) (omega (arith, good quintic c e .few))
+    g = gap-is (c .minutes) m (h .0) (omega (arith, some))
 
     upper : m ≤ getD (c .minutes) (i + 1) 0
     upper = elim (decLt (i + 2) (length (c .minutes))) [ yes l ↦ omega (arith, g .before l) | no l ↦ subst (λ k. m ≤ getD (c .minutes) k 0) (last l) (h .1) ]
@@ -53,14 +56,24 @@ module _ (s : List ℕ) (a : own s ≡ accepted) where
   abbrev c : Card
   c = card-of s
 
-  pub of-card : Demand3 quintic c
-  unfolding quintic
-  of-card = demand-3-of-bytes quintic quintic-head s a (lit≤ tt)
+  pub of-card : Demand3 (kind-by s) c
+  of-card = demand-3-by-head s a
+
+  -- order 8's own, where the head is of its kind
+  module _ (headed : kind-by s ≡ sloped) where
+    as-sloped : verdict sloped c ≡ accepted
+    as-sloped = subst (λ K. verdict K c ≡ accepted) headed (accepted-card (kind-by s) s a)
+
+    pub within-2 : WithinTwo c
+    within-2 = within-two c as-sloped
+
+    pub flat-ends : FlatEnds c
+    flat-ends = Ends.flat-ends c as-sloped
 
   -- what is read off the bytes is what is read off their card
-  reads : (minute : ℕ) {r : CardReading} → r ≡ read-off s minute → r ≡ answered (found (c .minutes) minute .looks) (reading quintic c minute)
+  reads : (minute : ℕ) {r : CardReading} → r ≡ read-off s minute → r ≡ answered (found (c .minutes) minute .looks) (reading (kind-by s) c minute)
   unfolding read-off answer-at
-  reads minute e = e ∙ ap (answered _) (reads-its-card quintic quintic-head s a minute)
+  reads minute e = e ∙ ap (answered _) (reads-its-card (kind-by s) s a minute)
 
   abbrev three-of : CardReading → Reading
   three-of r = record { value = r .value; slope = r .slope; curvature = r .curvature }
@@ -77,9 +90,6 @@ module _ (s : List ℕ) (a : own s ≡ accepted) where
 
   -- the looks for the minute's gap, and what they leave
   module _ (minute : ℕ) (h : On-the-card c minute) where
-    good-card : Good quintic c
-    good-card = good quintic c (accepted-card quintic quintic-head s a)
-
     pub looks : {r : CardReading} → r ≡ read-off s minute → Looks c minute (r .looks)
     unfolding knots
     looks e =
@@ -87,12 +97,12 @@ module _ (s : List ℕ) (a : own s ≡ accepted) where
         record {
           counted = is;
           few = λ p l. subst (λ n. n ≤ p) (sym is) (found-looks (c .minutes) minute p l);
-          six = subst (λ n. n ≤ 6) (sym is) (found-six (c .minutes) minute (good-card .many));
+          six = subst (λ n. n ≤ 6) (sym is) (found-six (c .minutes) minute (accepted-count s a .many));
         }
 
     pub gap-left : (let l = found (c .minutes) minute in (l .gaps ≡ 1) × (l .first ≡ gap-of (c .minutes) minute))
     unfolding knots knot quintic
-    gap-left = (found-one (c .minutes) minute (omega (arith, good-card .few)), found-gap (c .minutes) minute (omega (arith, good-card .few)) (minutes-rise good-card) (h .0))
+    gap-left = let some = accepted-count s a .some in (found-one (c .minutes) minute (omega (arith, some)), found-gap (c .minutes) minute (omega (arith, some)) (minutes-rise (accepted-good s a)) (h .0))
 
   -- the three numbers at a place of a table's lists
   abbrev row-of : Columns → ℕ → Reading

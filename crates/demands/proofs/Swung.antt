@@ -11,13 +11,13 @@ use Rattle.curve.specs.Card.{Card, knots, knot, gap}
 use Rattle.curve.specs.Reading.{reads-at}
 use Rattle.curve.specs.Orders.{reading-order}
 use Rattle.curve.specs.Demand.{On-gap}
-use Rattle.curve.proofs.Accepted.{Good, good, not-falling, gap-wide}
+use Rattle.curve.proofs.Accepted.{Good, not-falling, gap-wide}
 use Rattle.curve.proofs.Gap.{card-in}
 use Rattle.minutes.specs.Search.{found}
 use Rattle.lists.specs.Lists.{answered, answer-at}
-use Rattle.card_bytes.specs.Bytes.{quintic-head}
 use Rattle.card_bytes.specs.Held.{card-of}
-use Rattle.card_bytes.proofs.RoundTrip.{accepted-card}
+use Rattle.card_bytes.specs.Records.{kind-by}
+use Rattle.card_bytes.proofs.ByHead.{accepted-good, accepted-count}
 use Rattle.card.specs.Answers.{own, read-off}
 use Rattle.swing.specs.declared.Swung.{Swung}
 use Rattle.swing.specs.Swing as Swing
@@ -30,8 +30,8 @@ module _ (s : List ℕ) (a : own s ≡ accepted) where
   abbrev c : Card
   c = card-of s
 
-  good-card : Good quintic c
-  good-card = good quintic c (accepted-card quintic quintic-head s a)
+  good-card : Good (kind-by s) c
+  good-card = accepted-good s a
 
   -- ---- what is read t minutes into a gap
 
@@ -67,7 +67,7 @@ module _ (s : List ℕ) (a : own s ≡ accepted) where
 
   one-of-the-gaps : j + 1 < knots c
   unfolding quintic
-  one-of-the-gaps = omega (arith, widest-is c .inside, good-card .few)
+  one-of-the-gaps = omega (arith, widest-is c .inside, accepted-count s a .some)
 
   first : First-furthest c j
   first = first-furthest c j

@@ -6,6 +6,7 @@ use mir.Val.{ofZ}
 use Rattle.bytes.specs.Numbers.{le, signedBytes, Bytes}
 use Rattle.bytes.proofs.Numbers.{bytes-none, bytes-append, le-bytes}
 use Rattle.record.specs.Record.{header}
+use Rattle.curve.specs.Kind.{Kind}
 use Rattle.curve.specs.Card.{Knot, Card, knots, knot}
 use Rattle.card_bytes.specs.Bytes.{head-bytes, knot-bytes, end-bytes, rows, knot-row, bytes-of}
 
@@ -23,8 +24,8 @@ unfolding rows knot-row
 all-knots c i zero = bytes-none
 all-knots c i (suc k) = bytes-append (knot-bytes (knot c i)) _ (one-knot (knot c i)) (all-knots c (suc i) k)
 
-pub card-bytes : (head : ℕ) (c : Card) → Bytes (bytes-of head c)
+pub card-bytes : (K : Kind) (c : Card) → Bytes (bytes-of K c)
 unfolding bytes-of head-bytes end-bytes
-card-bytes head c =
-    bytes-append _ _ (bytes-append _ _ (bytes-append _ _ (bytes-append _ _ (header-bytes head 6) (le-bytes 2 (knots c))) (le-bytes 2 (c .left))) (le-bytes 2 (c .right)))
+card-bytes K c =
+    bytes-append _ _ (bytes-append _ _ (bytes-append _ _ (bytes-append _ _ (header-bytes (K .head) 6) (le-bytes 2 (knots c))) (le-bytes 2 (c .left))) (le-bytes 2 (c .right)))
     (bytes-append _ _ (all-knots c 0 (knots c)) (header-bytes 3 0))

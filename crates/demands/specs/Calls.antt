@@ -1,12 +1,13 @@
 -- Calls of the functions of the boundary (crates/kaihveto/src/lib.rt): what a function is called with, what it answers and what it leaves, by its promise as the prover reads it from the
 -- source. What holds of every such call holds of the function. Assumes nothing.
 use Prim.Native.Nat.{ℕ, _-_}
+use mathlib.Core.Bool.{cond}
 use mathlib.Core.List.{List}
 use lib.IntN.{ℤ, pos}
 use lib.ListN.{length, getD, take, drop}
 use denote.Ref.{now}
 use Rattle.answer.specs.Answer.{Answer, Verdict, accepted}
-use Rattle.curve.specs.Kind.{quintic}
+use Rattle.curve.specs.Kind.{Kind, quintic, sloped}
 use Rattle.curve.specs.Card.{Card, knots, knot}
 use Rattle.curve.specs.Reading.{Reading}
 use Rattle.curve.specs.Steps.{codes}
@@ -15,19 +16,28 @@ use Rattle.rows.specs.declared.End.{End}
 use Rattle.rows.specs.declared.End.the-variants.{Free}
 use Rattle.ends.specs.Ends.{end-by}
 use Rattle.fit.specs.declared.Fitted.{Fitted}
+use Rattle.front.specs.Front.{listed}
+use Rattle.passes.specs.declared.Solved.{Solved}
+use Rattle.numbers.specs.Numbers.{slope-at, curvature-at}
 use Rattle.fit.specs.Fit as Fit
 use Rattle.fit.specs.Fit.{fit-of, default-left, default-right}
+use Rattle.slope_fit.specs.SlopesFit as Slopes
+use Rattle.slope_fit.specs.SlopesFit.{slopes-fit}
 use Rattle.holes.specs.Hole.{mended}
 use Rattle.mend.specs.declared.Change.{Change}
 use Rattle.mend.specs.Order as Order
 use Rattle.card_bytes.specs.Held.{card-of}
+use Rattle.card_bytes.specs.Records.{kind-by}
 use Rattle.card.specs.Promise.{Lists, lists}
 use Rattle.lines.specs.Lines.{hundredths}
 use Rattle.table.specs.Promise.{Columns, columns}
+use Rattle.writer.specs.declared.Written.{Written}
 use Rattle.kaihveto.proofs.kaihveto_mean.Reads as mean
 use Rattle.kaihveto.proofs.kaihveto_fit.Reads as fit
 use Rattle.kaihveto.proofs.kaihveto_fit_ends.Reads as fit-ends
+use Rattle.kaihveto.proofs.kaihveto_fit_slopes.Reads as fit-slopes
 use Rattle.kaihveto.proofs.kaihveto_write.Reads as write
+use Rattle.kaihveto.proofs.kaihveto_write_slopes.Reads as write-slopes
 use Rattle.kaihveto.proofs.kaihveto_check.Reads as check
 use Rattle.kaihveto.proofs.kaihveto_read.Reads as read
 use Rattle.kaihveto.proofs.kaihveto_reading.Reads as reading
@@ -57,7 +67,8 @@ first-minute c = c .arguments .0
 abbrev pub log : A-mean → List ℕ
 log c = now (c .arguments .1 .0)
 
--- ---- kaihveto_fit(minutes, ordinates, slopes, curvatures), kaihveto_fit_ends(.., left, slope, curvature, right, slope, curvature)
+-- ---- kaihveto_fit(minutes, ordinates, slopes, curvatures), kaihveto_fit_ends(.., left, slope, curvature, right, slope, curvature),
+-- kaihveto_fit_slopes(minutes, ordinates, slopes, curvatures)
 
 abbrev pub A-fit : Type 0
 A-fit = Call fit.Post
@@ -65,7 +76,16 @@ A-fit = Call fit.Post
 abbrev pub A-fit-between : Type 0
 A-fit-between = Call fit-ends.Post
 
--- what both are: the sheet, the lists lent for slopes and curvatures at entry and at exit, the ends, 15 where they come as code numbers, and the answer
+abbrev pub A-fit-slopes : Type 0
+A-fit-slopes = Call fit-slopes.Post
+
+-- what is fitted: slopes and curvatures between two ends, with 15 where these come as code numbers; or
+-- curvatures alone, to slopes that are given (document 02, order 8)
+pub data Job : Type 0 where
+  between : (left right : End) → (named : Verdict) → Job
+  to-slopes : List ℤ → Job
+
+-- what each is: the sheet, the lists for slopes and curvatures at entry and at exit, the job, and the answer
 pub record Fitting : Type 0 where
   pub minutes : List ℕ
   pub ordinates : List ℤ
@@ -73,9 +93,7 @@ pub record Fitting : Type 0 where
   pub curvatures : List ℤ
   pub slopes′ : List ℤ
   pub curvatures′ : List ℤ
-  pub left : End
-  pub right : End
-  pub named : Verdict
+  pub job : Job
   pub answer : Fitted
 
 -- "a fit without ends has slope 0 and curvature 0 given at the left, and stays free at the right" (document 02, order 6)
@@ -89,9 +107,7 @@ without-ends c =
       curvatures = now (a .1 .1 .1 .0);
       slopes′ = now (c .exit .1 .1 .0);
       curvatures′ = now (c .exit .1 .1 .1 .0);
-      left = default-left;
-      right = default-right;
-      named = accepted;
+      job = between default-left default-right accepted;
       answer = c .answer;
     }
 
@@ -114,9 +130,7 @@ between-ends c =
       curvatures = now (a .1 .1 .1 .0);
       slopes′ = now (c .exit .1 .1 .0);
       curvatures′ = now (c .exit .1 .1 .1 .0);
-      left = end-by (ends .0) (ends .1 .0) (ends .1 .1 .0);
-      right = end-by (ends .1 .1 .1 .0) (ends .1 .1 .1 .1 .0) (ends .1 .1 .1 .1 .1 .0);
-      named = codes quintic (ends .0) (ends .1 .1 .1 .0);
+      job = between (end-by (ends .0) (ends .1 .0) (ends .1 .1 .0)) (end-by (ends .1 .1 .1 .0) (ends .1 .1 .1 .1 .0) (ends .1 .1 .1 .1 .1 .0)) (codes quintic (ends .0) (ends .1 .1 .1 .0));
       answer = c .answer;
     }
 
@@ -124,30 +138,96 @@ between-ends c =
 abbrev pub card-between : A-fit-between → Card
 card-between c = let ends = c .arguments .1 .1 .1 .1 in fitted-with (between-ends c) (ends .0) (ends .1 .1 .1 .0)
 
--- document 01's fit of it
-abbrev pub the-fit : Fitting → Answer Card
-the-fit f = fit-of (f .minutes) (f .ordinates) (f .left) (f .right) (length (f .slopes)) (length (f .curvatures)) (f .named)
+-- the slopes are lent to be read: they are at exit what they were at entry
+abbrev pub by-slopes : A-fit-slopes → Fitting
+by-slopes c =
+    let a = c .arguments in
+    let given = now (a .1 .1 .0) in
+    record {
+      minutes = now (a .0);
+      ordinates = now (a .1 .0);
+      slopes = given;
+      curvatures = now (a .1 .1 .1 .0);
+      slopes′ = given;
+      curvatures′ = now (c .exit .1 .1 .1 .0);
+      job = to-slopes given;
+      answer = c .answer;
+    }
+
+-- "both codes 0"
+abbrev pub sloped-card : A-fit-slopes → Card
+sloped-card c = fitted-with (by-slopes c) 0 0
+
+-- the fit of a sheet, for lists of ms and Ms places, by its job
+abbrev pub fit-by : Job → List ℕ → List ℤ → (ms Ms : ℕ) → Answer Card
+fit-by (between left right named) xs ys ms Ms = fit-of xs ys left right ms Ms named
+fit-by (to-slopes given) xs ys ms Ms = slopes-fit xs ys given Ms
+
+-- its elimination
+abbrev pub solved-by : Job → List ℕ → List ℤ → Solved
+solved-by (between left right named) xs ys = Fit.solved xs ys left right
+solved-by (to-slopes given) xs ys = Slopes.solved xs ys given
+
+-- the slopes of its card: worked out, or as they were given
+abbrev pub slopes-by : Job → List ℕ → List ℤ → List ℤ
+slopes-by (between left right named) xs ys = listed (slope-at (Fit.solved xs ys left right .pairs)) (length xs)
+slopes-by (to-slopes given) xs ys = given
+
+-- and the curvatures, which are worked out
+abbrev pub curvatures-by : Job → List ℕ → List ℤ → List ℤ
+curvatures-by job xs ys = listed (curvature-at (solved-by job xs ys .pairs)) (length xs)
 
 -- the card that its elimination gives, accepted or not
-abbrev pub worked-out : Fitting → Card
-worked-out f = Fit.card-of (f .minutes) (f .ordinates) (f .left) (f .right)
+abbrev pub card-by : Job → List ℕ → List ℤ → Card
+card-by (between left right named) xs ys = Fit.card-of xs ys left right
+card-by (to-slopes given) xs ys = Slopes.card-of xs ys given
 
--- ---- kaihveto_write(minutes, ordinates, slopes, curvatures, left, right, buffer)
+-- document 01's fit, or order 8's
+abbrev pub the-fit : Fitting → Answer Card
+the-fit f = fit-by (f .job) (f .minutes) (f .ordinates) (length (f .slopes)) (length (f .curvatures))
+
+abbrev pub worked-out : Fitting → Card
+worked-out f = card-by (f .job) (f .minutes) (f .ordinates)
+
+-- ---- kaihveto_write(minutes, ordinates, slopes, curvatures, left, right, buffer),
+-- kaihveto_write_slopes(minutes, ordinates, slopes, curvatures, buffer)
 
 abbrev pub A-write : Type 0
 A-write = Call write.Post
 
--- the card in the lent lists
-abbrev pub written-card : A-write → Card
-written-card c =
+abbrev pub A-write-slopes : Type 0
+A-write-slopes = Call write-slopes.Post
+
+-- a call of either
+pub data A-writing : Type 0 where
+  with-codes : A-write → A-writing
+  with-slopes : A-write-slopes → A-writing
+
+-- the kind of card that it writes
+abbrev pub written-kind : A-writing → Kind
+written-kind (with-codes c) = quintic
+written-kind (with-slopes c) = sloped
+
+-- the card in the lent lists; one whose slopes were given has the codes 0 and 0
+abbrev pub written-card : A-writing → Card
+written-card (with-codes c) =
     let a = c .arguments in
     lent (now (a .0)) (now (a .1 .0)) (now (a .1 .1 .0)) (now (a .1 .1 .1 .0)) (a .1 .1 .1 .1 .0) (a .1 .1 .1 .1 .1 .0)
+written-card (with-slopes c) =
+    let a = c .arguments in
+    lent (now (a .0)) (now (a .1 .0)) (now (a .1 .1 .0)) (now (a .1 .1 .1 .0)) 0 0
 
-abbrev pub buffer : A-write → List ℕ
-buffer c = now (c .arguments .1 .1 .1 .1 .1 .1 .0)
+abbrev pub buffer : A-writing → List ℕ
+buffer (with-codes c) = now (c .arguments .1 .1 .1 .1 .1 .1 .0)
+buffer (with-slopes c) = now (c .arguments .1 .1 .1 .1 .0)
 
-abbrev pub buffer′ : A-write → List ℕ
-buffer′ c = now (c .exit .1 .1 .1 .1 .1 .1 .0)
+abbrev pub buffer′ : A-writing → List ℕ
+buffer′ (with-codes c) = now (c .exit .1 .1 .1 .1 .1 .1 .0)
+buffer′ (with-slopes c) = now (c .exit .1 .1 .1 .1 .0)
+
+abbrev pub write-answer : A-writing → Written
+write-answer (with-codes c) = c .answer
+write-answer (with-slopes c) = c .answer
 
 -- ---- kaihveto_check(card)
 
@@ -240,14 +320,22 @@ fresh-curvatures′ c = now (c .exit .1 .1 .0)
 abbrev pub old-card : A-refit → Card
 old-card c = card-of (refit-bytes c)
 
--- its own knots fitted anew, between ends of its own codes that are given its own numbers, at the front of
--- the lent lists
+-- between ends of its own codes, which are given its own numbers
+abbrev pub own-ends : Card → Job
+own-ends old =
+    let first = knot old 0 in
+    let last = knot old (knots old - 1) in
+    between (end-by (old .left) (hundredths (first .m)) (hundredths (first .M))) (end-by (old .right) (hundredths (last .m)) (hundredths (last .M))) (codes quintic (old .left) (old .right))
+
+-- or to its own slopes, where those of its kind are given
+abbrev pub fresh-job : Kind → Card → Job
+fresh-job K old = cond (K .slopes-given) (to-slopes (old .slopes)) (own-ends old)
+
+-- its own knots fitted anew, at the front of the lent lists
 abbrev pub anew : A-refit → Fitting
 anew c =
     let old = old-card c in
     let n = knots old in
-    let first = knot old 0 in
-    let last = knot old (n - 1) in
     record {
       minutes = old .minutes;
       ordinates = old .ordinates;
@@ -255,9 +343,7 @@ anew c =
       curvatures = take n (fresh-curvatures c);
       slopes′ = take n (fresh-slopes′ c);
       curvatures′ = take n (fresh-curvatures′ c);
-      left = end-by (old .left) (hundredths (first .m)) (hundredths (first .M));
-      right = end-by (old .right) (hundredths (last .m)) (hundredths (last .M));
-      named = codes quintic (old .left) (old .right);
+      job = fresh-job (kind-by (refit-bytes c)) old;
       answer = record { number = c .answer .number; place = c .answer .place };
     }
 
@@ -297,9 +383,7 @@ of-the-mended c =
       curvatures = now (a .1 .1 .1 .0);
       slopes′ = now (c .exit .1 .1 .0);
       curvatures′ = now (c .exit .1 .1 .1 .0);
-      left = Free;
-      right = Free;
-      named = accepted;
+      job = between Free Free accepted;
       answer = record { number = c .answer .number; place = c .answer .place };
     }
 

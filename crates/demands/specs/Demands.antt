@@ -9,15 +9,14 @@ use lib.ListN.{length, take, drop}
 use lib.Dec.{T}
 use Rattle.whole.specs.Whole.{nearest}
 use Rattle.answer.specs.Answer as Answer
-use Rattle.answer.specs.Answer.{Answer, accepted}
-use Rattle.front.specs.Front.{listed}
+use Rattle.answer.specs.Answer.{Answer, Verdict, accepted, _then_}
 use Rattle.curve.specs.Curve.{Order}
-use Rattle.curve.specs.Kind.{quintic, inner}
+use Rattle.curve.specs.Kind.{Kind, quintic, sloped, inner}
 use Rattle.curve.specs.Card.{latest, Card, knots, knot}
 use Rattle.curve.specs.Log.{count, sum, faults, middle}
 use Rattle.curve.specs.Log as Log
 use Rattle.curve.specs.Reading.{gap-of}
-use Rattle.curve.specs.Steps.{size as card-size}
+use Rattle.curve.specs.Steps.{lengths, counted, size as card-size}
 use Rattle.curve.specs.Orders.{write-order, reading-order}
 use Rattle.curve.specs.Exact.{Exact, Near}
 use Rattle.curve.specs.Demand.{Close, On-gap, numbers, Jump-within}
@@ -25,10 +24,12 @@ use Rattle.minutes.specs.Search.{found}
 use Rattle.knots.specs.Lent.{lent}
 use Rattle.rows.specs.declared.End.{End}
 use Rattle.rows.specs.declared.End.the-variants.{Free}
-use Rattle.numbers.specs.Numbers.{slope-at, curvature-at}
-use Rattle.fit.specs.Fit.{solved}
 use Rattle.exact_fit.specs.Solution.{before-8, OneSolution}
+use Rattle.slope_fit.specs.SlopesFit.{standing}
+use Rattle.sloped.specs.Sloped as Sloped
+use Rattle.sloped.specs.Sloped.{WithinTwo, FlatEnds}
 use Rattle.card_bytes.specs.Held.{card-of}
+use Rattle.card_bytes.specs.Records.{kind-by}
 use Rattle.card.specs.declared.Checked.{Checked}
 use Rattle.card.specs.Answers.{own}
 use Rattle.card.specs.Promise.{Lists, into}
@@ -42,7 +43,7 @@ use Rattle.book.specs.Book.{Entry, book-bytes, size, book}
 use Rattle.book.specs.Lookup.{look-up}
 use Rattle.book_put.specs.Put as Put
 use Rattle.bookkeeping.specs.Card.{card-in}
-use Rattle.demands.specs.Calls.{A-mean, first-minute, log, A-fit, A-fit-between, Fitting, without-ends, fitted-card, between-ends, card-between, the-fit, worked-out, A-write, written-card, buffer, buffer′, A-check, checked-bytes, A-read, read-bytes, places, places′, A-reading, reading-bytes, minute, three, A-table, table-bytes, from, lists-for, lists-for′, row, A-swing, swing-bytes, A-refit, refit-bytes, fresh-slopes, fresh-curvatures, fresh-slopes′, fresh-curvatures′, old-card, anew, fresh-card, A-mend, sheet-minutes, sheet, sheet′, change-list, change-list′, of-the-mended, mended-card, the-mending, A-book-find, the-book, the-room, the-part, A-book-put, put-book, put-book′, put-room, put-card}
+use Rattle.demands.specs.Calls.{A-mean, first-minute, log, A-fit, A-fit-between, A-fit-slopes, Fitting, without-ends, fitted-card, between-ends, card-between, by-slopes, sloped-card, slopes-by, curvatures-by, the-fit, worked-out, A-writing, written-kind, written-card, buffer, buffer′, write-answer, A-check, checked-bytes, A-read, read-bytes, places, places′, A-reading, reading-bytes, minute, three, A-table, table-bytes, from, lists-for, lists-for′, row, A-swing, swing-bytes, A-refit, refit-bytes, fresh-slopes, fresh-curvatures, fresh-slopes′, fresh-curvatures′, old-card, anew, fresh-card, A-mend, sheet-minutes, sheet, sheet′, change-list, change-list′, of-the-mended, mended-card, the-mending, A-book-find, the-book, the-room, the-part, A-book-put, put-book, put-book′, put-room, put-card}
 
 -- ---- 1. "Every input gets an answer: bad knots, logs, cards and minutes are refused by number and place, the numbers beside a refusal are zero, and lent memory stays untouched."
 
@@ -65,13 +66,13 @@ pub record Spares {A : Type 0} (n k : ℕ) (entry exit : List A) : Type 0 where
 
 -- zeros beside the refusal of a card
 abbrev pub No-card : Checked → Type 0
-No-card r = r .number ≢ 0 → (r .knots ≡ 0) × (r .left ≡ 0) × (r .right ≡ 0)
+No-card r = r .number ≢ 0 → (r .knots ≡ 0) × (r .left ≡ 0) × (r .right ≡ 0) × (r .kind ≡ 0)
 
 -- and beside that of a card whose swing is asked
 abbrev pub No-swing : Swung → Type 0
 No-swing r = r .number ≢ 0 → (r .knot ≡ 0) × (r .minute ≡ 0) × (r .below ≡ 0) × (r .above ≡ 0)
 
--- an answer to a fit, by its order: 3, 1, 2, 15; per knot 4, 5, 6; 7; 8; 9; 10
+-- an answer to a fit, by its order: 3, 1, 2, 15; per knot 4, 5, 6; 7, or 9 for slopes that are given; 8; 9; 10
 abbrev pub Fit-says : Fitting → Type 0
 Fit-says f = Says (the-fit f) (f .answer .number) (f .answer .place)
 
@@ -84,9 +85,10 @@ pub record Demand-1 : Type 0 where
   pub mean : (c : A-mean) → Says (Log.mean (first-minute c) (log c)) (c .answer .number) (c .answer .place)
   pub fit : (c : A-fit) → Fit-says (without-ends c)
   pub fit-between : (c : A-fit-between) → Fit-says (between-ends c)
+  pub fit-slopes : (c : A-fit-slopes) → Fit-says (by-slopes c)
   -- 3, 1, 2, 15; per knot 4, 5, 6; 9; 10; 26
-  pub write : (c : A-write) → Says (write-order quintic (written-card c) (length (buffer c))) (c .answer .number) (c .answer .place)
-  -- head 14; 1, 2; 15; the other records 14; per knot 4, 5, 6; 9; 10
+  pub write : (w : A-writing) → Says (write-order (written-kind w) (written-card w) (length (buffer w))) (write-answer w .number) (write-answer w .place)
+  -- head 14; 1, 2; 15; the other records 14; per knot 4, 5, 6; 9; 10, as the kind that the head names
   pub check : (c : A-check) → Says (own (checked-bytes c)) (c .answer .number) (c .answer .place)
   -- 3, the card's, 26
   pub read : (c : A-read) → Says (into (places c) (read-bytes c)) (c .answer .number) (c .answer .place)
@@ -106,7 +108,7 @@ pub record Demand-1 : Type 0 where
   pub book-put : (c : A-book-put) → Says (Put.put (put-room c) (put-card c) (put-book c)) (c .answer .number) (c .answer .place)
   -- "the numbers beside a refusal are zero"
   pub mean-zeros : (c : A-mean) → c .answer .number ≢ 0 → (c .answer .minute ≡ 0) × (c .answer .ordinate ≡ pos 0) × (c .answer .good ≡ 0) × (c .answer .faults ≡ 0)
-  pub write-zeros : (c : A-write) → c .answer .number ≢ 0 → c .answer .bytes ≡ 0
+  pub write-zeros : (w : A-writing) → write-answer w .number ≢ 0 → write-answer w .bytes ≡ 0
   pub check-zeros : (c : A-check) → No-card (c .answer)
   pub read-zeros : (c : A-read) → No-card (c .answer)
   pub reading-zeros : (c : A-reading) → c .answer .number ≢ 0 → (c .answer .value ≡ pos 0) × (c .answer .slope ≡ pos 0) × (c .answer .curvature ≡ pos 0) × (c .answer .looks ≡ 0)
@@ -119,7 +121,9 @@ pub record Demand-1 : Type 0 where
   -- "and lent memory stays untouched"; on acceptance only the n places, the card's bytes or the places of the readings are written
   pub fit-spares : (c : A-fit) → Fit-spares (without-ends c)
   pub fit-between-spares : (c : A-fit-between) → Fit-spares (between-ends c)
-  pub write-spares : (c : A-write) → Spares (c .answer .number) (c .answer .bytes) (buffer c) (buffer′ c)
+  -- slopes that are given are lent to be read, and cannot be written
+  pub fit-slopes-spares : (c : A-fit-slopes) → let f = by-slopes c in Spares (c .answer .number) (length (f .minutes)) (f .curvatures) (f .curvatures′)
+  pub write-spares : (w : A-writing) → Spares (write-answer w .number) (write-answer w .bytes) (buffer w) (buffer′ w)
   pub read-spares : (c : A-read) →
       Spares (c .answer .number) (c .answer .knots) (places c .minutes) (places′ c .minutes)
       × Spares (c .answer .number) (c .answer .knots) (places c .ordinates) (places′ c .ordinates)
@@ -141,17 +145,18 @@ pub record Demand-1 : Type 0 where
 -- ---- 2. "The fit is exactly the elimination that the paper prescribes, each operation rounded once; logs give the stated mean; writing a sound card and reading it returns it, and
 -- accepted bytes are those that the writer makes."
 
--- the pairs of the elimination, which is defined over binary64 with one rounding an operation, in card units
+-- the pairs of the elimination, which is defined over binary64 with one rounding an operation, in card units; slopes that are given are left as they are
 pub record Eliminates (f : Fitting) : Type 0 where
-  pub slopes : f .slopes′ ≡ listed (slope-at (solved (f .minutes) (f .ordinates) (f .left) (f .right) .pairs)) (length (f .minutes))
-  pub curvatures : f .curvatures′ ≡ listed (curvature-at (solved (f .minutes) (f .ordinates) (f .left) (f .right) .pairs)) (length (f .minutes))
+  pub slopes : f .slopes′ ≡ slopes-by (f .job) (f .minutes) (f .ordinates)
+  pub curvatures : f .curvatures′ ≡ curvatures-by (f .job) (f .minutes) (f .ordinates)
 
--- an acceptance that gives the count of a card's knots and its codes
-pub record Accepts-as (card : Card) (r : Checked) : Type 0 where
+-- an acceptance that gives the count of a card's knots, its codes and the number of its kind
+pub record Accepts-as (K : Kind) (card : Card) (r : Checked) : Type 0 where
   pub number : r .number ≡ 0
   pub knots : r .knots ≡ knots card
   pub left : r .left ≡ card .left
   pub right : r .right ≡ card .right
+  pub kind : r .kind ≡ K .head
 
 -- four lists of one length with room for n places
 pub record Room-for (n : ℕ) (l : Lists) : Type 0 where
@@ -165,15 +170,15 @@ abbrev pub front : ℕ → Lists → (left right : ℕ) → Card
 front n l left right = lent (take n (l .minutes)) (take n (l .ordinates)) (take n (l .slopes)) (take n (l .curvatures)) left right
 
 -- the bytes that were written
-abbrev pub written-bytes : A-write → List ℕ
-written-bytes w = take (w .answer .bytes) (buffer′ w)
+abbrev pub written-bytes : A-writing → List ℕ
+written-bytes w = take (write-answer w .bytes) (buffer′ w)
 
--- a card that the writer accepts where there is room; and what is written then is accepted with its codes,
--- and read back
-pub record Kept (card : Card) : Type 0 where
-  pub is-written : (w : A-write) → written-card w ≡ card → card-size (knots card) ≤ length (buffer w) → w .answer .number ≡ 0
-  pub is-read : (w : A-write) (r : A-read) → written-card w ≡ card → card-size (knots card) ≤ length (buffer w) → read-bytes r ≡ written-bytes w → Room-for (knots card) (places r)
-      → Accepts-as card (r .answer) × (front (r .answer .knots) (places′ r) (r .answer .left) (r .answer .right) ≡ card)
+-- a card that the writer of its kind accepts where there is room; and what is written then is accepted with
+-- its codes, as of its kind, and read back
+pub record Kept (K : Kind) (card : Card) : Type 0 where
+  pub is-written : (w : A-writing) → written-kind w ≡ K → written-card w ≡ card → card-size (knots card) ≤ length (buffer w) → write-answer w .number ≡ 0
+  pub is-read : (w : A-writing) (r : A-read) → written-kind w ≡ K → written-card w ≡ card → card-size (knots card) ≤ length (buffer w) → read-bytes r ≡ written-bytes w → Room-for (knots card) (places r)
+      → Accepts-as K card (r .answer) × (front (r .answer .knots) (places′ r) (r .answer .left) (r .answer .right) ≡ card)
 
 -- a sound book at the front of a list, of these rooms, with n bytes in use
 pub record Holds-a-book (n : ℕ) (s : List ℕ) : Type 0 where
@@ -192,18 +197,21 @@ pub record Demand-2 : Type 0 where
   -- "The fit is exactly the elimination that the paper prescribes, each operation rounded once"
   pub fit : (c : A-fit) → c .answer .number ≡ 0 → Eliminates (without-ends c)
   pub fit-between : (c : A-fit-between) → c .answer .number ≡ 0 → Eliminates (between-ends c)
+  pub fit-slopes : (c : A-fit-slopes) → c .answer .number ≡ 0 → Eliminates (by-slopes c)
   -- and without ends it starts at rest, with slope 0 and curvature 0 at the first knot: what it leaves is
   -- kept with the codes 1 and 0
   pub fit-rests : (c : A-fit) → c .answer .number ≡ 0 → (knot (fitted-card c) 0 .m ≡ pos 0) × (knot (fitted-card c) 0 .M ≡ pos 0)
-  pub fitted-is-kept : (c : A-fit) → c .answer .number ≡ 0 → Kept (fitted-card c)
+  pub fitted-is-kept : (c : A-fit) → c .answer .number ≡ 0 → Kept quintic (fitted-card c)
   -- and between ends with the codes that were asked
-  pub between-is-kept : (c : A-fit-between) → c .answer .number ≡ 0 → Kept (card-between c)
-  -- and so of a card that is fitted anew, between its own ends
+  pub between-is-kept : (c : A-fit-between) → c .answer .number ≡ 0 → Kept quintic (card-between c)
+  -- and to slopes that are given, as a card of the second kind
+  pub sloped-is-kept : (c : A-fit-slopes) → c .answer .number ≡ 0 → Kept sloped (sloped-card c)
+  -- and so of a card that is fitted anew, between its own ends or to its own slopes, as its kind is
   pub refit : (c : A-refit) → c .answer .number ≡ 0 → (c .answer .knots ≡ knots (old-card c)) × Eliminates (anew c)
-  pub fresh-is-kept : (c : A-refit) → c .answer .number ≡ 0 → Kept (fresh-card c)
+  pub fresh-is-kept : (c : A-refit) → c .answer .number ≡ 0 → Kept (kind-by (refit-bytes c)) (fresh-card c)
   -- and of a mended sheet, with the codes 0 and 0
   pub mend : (c : A-mend) → c .answer .number ≡ 0 → (sheet′ c ≡ of-the-mended c .ordinates) × Eliminates (of-the-mended c)
-  pub mended-is-kept : (c : A-mend) → c .answer .number ≡ 0 → Kept (mended-card c)
+  pub mended-is-kept : (c : A-mend) → c .answer .number ≡ 0 → Kept quintic (mended-card c)
   -- its list at exit has exactly the holes,
   pub mend-lists : (c : A-mend) → c .answer .number ≡ 0 → Lists-the-holes (sheet c) (sheet′ c) (c .answer .count) (change-list′ c)
   -- and "Putting the old numbers back from the list" gives the sheet as it came, after a refusal too
@@ -214,15 +222,18 @@ pub record Demand-2 : Type 0 where
       (c .answer .minute ≡ middle (first-minute c) (length (log c))) × (c .answer .minute ≤ latest)
       × (c .answer .ordinate ≡ nearest (pos (50 * sum (log c))) (count (log c))) × (c .answer .good ≡ count (log c))
       × (c .answer .faults ≡ faults (log c)) × (c .answer .good + c .answer .faults ≡ length (log c)) × (length (log c) ≤ 2 * c .answer .good)
-  -- "writing a sound card and reading it returns it": what was written is accepted, and read back as it was
-  pub written-is-checked : (w : A-write) (c : A-check) → w .answer .number ≡ 0 → checked-bytes c ≡ written-bytes w → Accepts-as (written-card w) (c .answer)
-  pub written-is-read : (w : A-write) (r : A-read) → w .answer .number ≡ 0 → read-bytes r ≡ written-bytes w → Room-for (knots (written-card w)) (places r) →
-      Accepts-as (written-card w) (r .answer) × (front (r .answer .knots) (places′ r) (r .answer .left) (r .answer .right) ≡ written-card w)
-  -- "and accepted bytes are those that the writer makes", of what the reader gives
-  pub checked-is-written : (c : A-check) (r : A-read) (w : A-write) → c .answer .number ≡ 0
+  -- an accepted card is told: as many knots, these codes, and of the kind that its head names
+  pub check-tells : (c : A-check) → c .answer .number ≡ 0 → Accepts-as (kind-by (checked-bytes c)) (card-of (checked-bytes c)) (c .answer)
+  pub read-tells : (r : A-read) → r .answer .number ≡ 0 → Accepts-as (kind-by (read-bytes r)) (card-of (read-bytes r)) (r .answer)
+  -- "writing a sound card and reading it returns it": what was written is accepted as of its kind, and read back as it was
+  pub written-is-checked : (w : A-writing) (c : A-check) → write-answer w .number ≡ 0 → checked-bytes c ≡ written-bytes w → Accepts-as (written-kind w) (written-card w) (c .answer)
+  pub written-is-read : (w : A-writing) (r : A-read) → write-answer w .number ≡ 0 → read-bytes r ≡ written-bytes w → Room-for (knots (written-card w)) (places r) →
+      Accepts-as (written-kind w) (written-card w) (r .answer) × (front (r .answer .knots) (places′ r) (r .answer .left) (r .answer .right) ≡ written-card w)
+  -- "and accepted bytes are those that the writer makes": the writer of the kind that was told, of what the reader gives
+  pub checked-is-written : (c : A-check) (r : A-read) (w : A-writing) → c .answer .number ≡ 0 → written-kind w .head ≡ c .answer .kind
       → read-bytes r ≡ checked-bytes c → r .answer .number ≡ 0
       → written-card w ≡ front (r .answer .knots) (places′ r) (r .answer .left) (r .answer .right) → length (checked-bytes c) ≤ length (buffer w)
-      → (w .answer .number ≡ 0) × (written-bytes w ≡ checked-bytes c)
+      → (write-answer w .number ≡ 0) × (written-bytes w ≡ checked-bytes c)
   -- and so in a book: what is left by a card that was put in is a sound book,
   pub put-leaves-a-book : (p : A-book-put) → p .answer .number ≡ 0 → Holds-a-book (p .answer .bytes) (put-book′ p)
   -- in which the card is found,
@@ -309,14 +320,26 @@ pub record Off (s : List ℕ) : Type 0 where
       t .answer .count ≡ min (length (lists-for t .values)) (knot (card-of s) (knots (card-of s) - 1) .x + 1 - from t)
   -- and so beside the knots: the gap whose readings go furthest beyond its two knots
   pub swings : (c : A-swing) → swing-bytes c ≡ s → (c .answer .number ≡ 0) × Swings s (c .answer)
-  -- "third and fourth derivatives jump by no more than is allowed"
-  pub jumps : (i : ℕ) → i + 2 < knots (card-of s) → (o : Order) → T (quintic .asks inner o) →
-      Jump-within quintic o (knot (card-of s) i) (knot (card-of s) (i + 1)) (knot (card-of s) (i + 2))
+  -- "third and fourth derivatives jump by no more than is allowed", as far as the card's kind asks for them
+  pub jumps : (i : ℕ) → i + 2 < knots (card-of s) → (o : Order) → T (kind-by s .asks inner o) →
+      Jump-within (kind-by s) o (knot (card-of s) i) (knot (card-of s) (i + 1)) (knot (card-of s) (i + 2))
+  -- where the slopes are given there is one exact solution, "every stored curvature of an accepted card is at most 2 card units" from it (document 02, order 8),
+  pub within-2 : kind-by s ≡ sloped → WithinTwo (card-of s)
+  -- and the third derivative is within its allowance "at both ends too"
+  pub flat-ends : kind-by s ≡ sloped → FlatEnds (card-of s)
 
 -- within half a unit of an exact solution
-pub record Half-a-unit (card : Card) : Type 0 where
-  pub exact : Exact quintic card
+pub record Half-a-unit (K : Kind) (card : Card) : Type 0 where
+  pub exact : Exact K card
   pub near : Near exact
+
+-- of the card that bytes hold, as the kind that their head names
+abbrev pub Half-a-unit-held : List ℕ → Type 0
+Half-a-unit-held s = Half-a-unit (kind-by s) (card-of s)
+
+-- the order of a fit to slopes before it eliminates, into a list of n places: 3, 1, 2; per knot 4, 5, 6; 9 for the slopes
+abbrev pub before-8-of-slopes : List ℕ → (ordinates slopes : List ℤ) → Verdict
+before-8-of-slopes xs ys ms = lengths (length xs) (length ys) (length ms) (length xs) then counted sloped (length xs) then standing xs ys ms
 
 pub record Demand-3 : Type 0 where
   -- "Off any accepted card", "whoever wrote the card"
@@ -324,21 +347,24 @@ pub record Demand-3 : Type 0 where
   -- and off each card that is found in a book
   pub found-off : (c : A-book-find) → c .answer .number ≡ 0 → Off (the-part c)
   -- "and no card within half a unit of an exact solution is refused for a jump"
-  pub write-never-10 : (c : A-write) → Half-a-unit (written-card c) → c .answer .number ≢ 10
-  pub check-never-10 : (c : A-check) → Half-a-unit (card-of (checked-bytes c)) → c .answer .number ≢ 10
-  pub read-never-10 : (c : A-read) → Half-a-unit (card-of (read-bytes c)) → c .answer .number ≢ 10
-  pub reading-never-10 : (c : A-reading) → Half-a-unit (card-of (reading-bytes c)) → c .answer .number ≢ 10
-  pub table-never-10 : (c : A-table) → Half-a-unit (card-of (table-bytes c)) → c .answer .number ≢ 10
-  pub swing-never-10 : (c : A-swing) → Half-a-unit (card-of (swing-bytes c)) → c .answer .number ≢ 10
-  pub book-find-never-10 : (c : A-book-find) → ((card : List ℕ) → card-in (the-room c) (the-book c) ≡ Answer.given card → Half-a-unit (card-of card)) → c .answer .number ≢ 10
-  pub book-put-never-10 : (c : A-book-put) → Half-a-unit (card-of (put-card c)) → c .answer .number ≢ 10
+  pub write-never-10 : (w : A-writing) → Half-a-unit (written-kind w) (written-card w) → write-answer w .number ≢ 10
+  pub check-never-10 : (c : A-check) → Half-a-unit-held (checked-bytes c) → c .answer .number ≢ 10
+  pub read-never-10 : (c : A-read) → Half-a-unit-held (read-bytes c) → c .answer .number ≢ 10
+  pub reading-never-10 : (c : A-reading) → Half-a-unit-held (reading-bytes c) → c .answer .number ≢ 10
+  pub table-never-10 : (c : A-table) → Half-a-unit-held (table-bytes c) → c .answer .number ≢ 10
+  pub swing-never-10 : (c : A-swing) → Half-a-unit-held (swing-bytes c) → c .answer .number ≢ 10
+  pub book-find-never-10 : (c : A-book-find) → ((card : List ℕ) → card-in (the-room c) (the-book c) ≡ Answer.given card → Half-a-unit-held card) → c .answer .number ≢ 10
+  pub book-put-never-10 : (c : A-book-put) → Half-a-unit-held (put-card c) → c .answer .number ≢ 10
   -- nor the numbers that a fit works out
-  pub fit-never-10 : (c : A-fit) → Half-a-unit (worked-out (without-ends c)) → c .answer .number ≢ 10
-  pub fit-between-never-10 : (c : A-fit-between) → Half-a-unit (worked-out (between-ends c)) → c .answer .number ≢ 10
-  pub mend-never-10 : (c : A-mend) → Half-a-unit (worked-out (of-the-mended c)) → c .answer .number ≢ 10
-  pub refit-never-10 : (c : A-refit) → Half-a-unit (old-card c) → Half-a-unit (worked-out (anew c)) → c .answer .number ≢ 10
+  pub fit-never-10 : (c : A-fit) → Half-a-unit quintic (worked-out (without-ends c)) → c .answer .number ≢ 10
+  pub fit-between-never-10 : (c : A-fit-between) → Half-a-unit quintic (worked-out (between-ends c)) → c .answer .number ≢ 10
+  pub fit-slopes-never-10 : (c : A-fit-slopes) → Half-a-unit sloped (worked-out (by-slopes c)) → c .answer .number ≢ 10
+  pub mend-never-10 : (c : A-mend) → Half-a-unit quintic (worked-out (of-the-mended c)) → c .answer .number ≢ 10
+  pub refit-never-10 : (c : A-refit) → Half-a-unit-held (refit-bytes c) → Half-a-unit (kind-by (refit-bytes c)) (worked-out (anew c)) → c .answer .number ≢ 10
   -- and there is one for every sheet that a fit takes up: the exact solution between the fit's own ends, rounded to card units
   pub exact-solution : (minutes : List ℕ) (ordinates : List ℤ) (left right : End) → before-8 minutes ordinates left right ≡ accepted → OneSolution minutes ordinates left right
+  -- to slopes that are given, of the sheet with these slopes, on which no curvature stands yet
+  pub slopes-solution : (minutes : List ℕ) (ordinates slopes : List ℤ) → before-8-of-slopes minutes ordinates slopes ≡ accepted → Sloped.OneSolution (lent minutes ordinates slopes [] 0 0)
   -- the sheet that was mended has one
   pub mended-solution : (c : A-mend) → c .answer .number ≡ 0 → OneSolution (sheet-minutes c) (sheet′ c) Free Free
 
