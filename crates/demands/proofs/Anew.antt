@@ -1,7 +1,6 @@
 -- Demand 2 of a card that is fitted anew: the numbers that it leaves are the elimination's of the card's own
 -- knots, between its own ends or to its own slopes, and are kept with the card's own codes, as of its kind.
 -- Assumes nothing.
-use Prim.Native.Nat.{ℕ}
 use mathlib.Core.Path.{_≡_, sym, ap, subst, _∙_}
 use mathlib.Core.List.{List}
 use lib.IntN.{ℤ}

@@ -26,8 +26,8 @@ use Rattle.knots.specs.Lent.{lent}
 use Rattle.exists.specs.Sound.{Sound}
 use Rattle.slope_fit.specs.SlopesFit.{standing}
 use Rattle.sloped.specs.Sloped as Sloped
-use Rattle.sloped.proofs.Sloped.{one-solution}
-use Rattle.demands.specs.Calls.{A-fit, A-fit-between, A-fit-slopes, without-ends, between-ends, by-slopes, buffer, A-check, checked-bytes, read-bytes, places, reading-bytes, minute, A-table, table-bytes, from, lists-for, lists-for′, swing-bytes, first-minute, log, sheet-minutes, sheet, A-book-find, the-book, the-room, the-part, A-book-put, put-book, put-book′, put-room, put-card}
+use Rattle.sloped.proofs.Sloped.{one-solution, within-two}
+use Rattle.demands.specs.Calls.{A-fit, A-fit-between, A-fit-slopes, without-ends, between-ends, by-slopes, sloped-card, buffer, A-check, checked-bytes, read-bytes, places, reading-bytes, minute, A-table, table-bytes, from, lists-for, lists-for′, swing-bytes, first-minute, log, sheet-minutes, sheet, A-book-find, the-book, the-room, the-part, A-book-put, put-book, put-book′, put-room, put-card}
 use Rattle.demands.specs.Demands.{Fit-says, Off, before-8-of-slopes, Demand-1, Demand-2, Demand-3, Demands}
 use Rattle.fit.proofs.Numbered.{codes-numbered}
 use Rattle.demands.proofs.Numbered.{accepts}
@@ -35,7 +35,7 @@ use Rattle.demands.proofs.Jobs.{slope-places}
 use Rattle.demands.proofs.Writers.{promises, known-writer, same-head}
 use Rattle.demands.proofs.Answered.{mean-answers, fit-says, curvatures-spared, fit-spares, check-answers, read-answers, read-spares, write-answers, write-spares, reading-answers, table-answers, table-spares, swing-answers, refit-answers, refit-spares}
 use Rattle.demands.proofs.Given.{eliminates, mean-given}
-use Rattle.demands.proofs.FitToCard.{default-rests, default-is-kept, between-is-kept, sloped-is-kept, read-back}
+use Rattle.demands.proofs.FitToCard.{default-rests, default-is-kept, between-is-kept, sloped-passes, kept, read-back}
 use Rattle.demands.proofs.Anew.{fresh-eliminates, fresh-is-kept}
 use Rattle.demands.proofs.MendedSheet.{mend-answers, mend-spares, mend-eliminates, one-mended-solution, mended-is-kept, mend-lists, mend-put-back}
 use Rattle.demands.proofs.Books.{find-answers, put-answers, put-spares, leaves-a-book, is-found, others-cards, others-found, part-is, part-passes, handed-back, find-never, puts-never}
@@ -129,7 +129,7 @@ two =
       fit-rests = λ c zero. default-rests c (fits c .accepts zero);
       fitted-is-kept = λ c zero. default-is-kept c (fits c .accepts zero);
       between-is-kept = λ c zero. between-is-kept c (fits-between c .accepts zero);
-      sloped-is-kept = λ c zero. sloped-is-kept c (fits-to-slopes c .accepts zero);
+      sloped-is-kept = λ c zero. kept (sloped-card c) (sloped-passes c (fits-to-slopes c .accepts zero));
       refit = fresh-eliminates;
       fresh-is-kept = fresh-is-kept;
       mend = mend-eliminates;
@@ -223,6 +223,7 @@ three =
       refit-never-10 = λ c half fresh e. refitted-never c half fresh (sym (one .refit c .number) ∙ e);
       exact-solution = one-exact;
       slopes-solution = slopes-solution;
+      sloped-within-2 = λ c zero. within-two (sloped-card c) (sloped-passes c (fits-to-slopes c .accepts zero));
       mended-solution = one-mended-solution;
     }
 

@@ -1,8 +1,8 @@
 -- The page is of something: each function accepts a call. Table 3's knots are accepted by the fit without
--- ends, between free ends and to Table 3's slopes, whose card is written and told as of kind 6; its card is accepted by the writer, its bytes by the card test, the reader, a
--- reading, a table, the swing and the fresh fit, and it is within half a unit of an exact solution, as are
--- the numbers of these fits; it is put into a book and found there. P7's knots with a hole are mended, and
--- P8's log has a mean. Assumes nothing.
+-- ends, between free ends and to Table 3's slopes, whose card is written and told as of kind 6; its card is
+-- accepted by the writer, its bytes by the card test, the reader, a reading, a table, the swing and the fresh
+-- fit, and it is within half a unit of an exact solution, as are the numbers of these fits; it is put into a
+-- book and found there. P7's knots with a hole are mended, and P8's log has a mean. Assumes nothing.
 use mathlib.Core.Path.{_≡_, refl, sym, ap, ap₂, _∙_, subst}
 use mathlib.Core.Logic.{inl, inr}
 use mathlib.Core.List.{List, [], _∷_, _++_}

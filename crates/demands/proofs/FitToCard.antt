@@ -1,8 +1,8 @@
--- From the fit to the card: what an accepted fit gives, the writer of its kind accepts in a buffer of its size, and
--- the reader accepts what is written and returns it. Of the functions of the boundary that is said of what they
--- leave, with the codes of its ends.
+-- From the fit to the card: what an accepted fit gives, the writer of its kind accepts in a buffer of its
+-- size, and the reader accepts what is written and returns it. Of the functions of the boundary that is said
+-- of what they leave, with the codes of its ends.
 -- Assumes nothing.
-use mathlib.Core.Path.{_≡_, refl, sym, ap, ap₂, subst, _∙_}
+use mathlib.Core.Path.{_≡_, sym, ap, ap₂, subst, _∙_}
 use Prim.Native.Nat.{ℕ, _≤_}
 use lib.IntN.{pos}
 use lib.ListN.{length}
@@ -93,5 +93,5 @@ between-is-kept c g =
 
 -- ---- to given slopes
 
-pub sloped-is-kept : (c : A-fit-slopes) → Is-given (the-fit (by-slopes c)) → Kept sloped (sloped-card c)
-sloped-is-kept c g = let f = by-slopes c in kept (sloped-card c) (fitted-passes f g (eliminates f (c .promised) g))
+pub sloped-passes : (c : A-fit-slopes) → Is-given (the-fit (by-slopes c)) → verdict sloped (sloped-card c) ≡ accepted
+sloped-passes c g = let f = by-slopes c in fitted-passes f g (eliminates f (c .promised) g)

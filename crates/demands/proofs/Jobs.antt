@@ -1,5 +1,5 @@
--- Fits by their job, between ends or to given slopes: that 0 is no refusal's number, the card that a fit gives, that its
--- kind's test accepts it, and that a fresh fit is one of them.
+-- Fits by their job, between ends or to given slopes: that 0 is no refusal's number, the card that a fit
+-- gives, that its kind's test accepts it, and that a fresh fit is one of them.
 -- Assumes nothing.
 use Prim.Native.Nat.{ℕ}
 use mathlib.Core.Path.{_≡_, refl, sym, ap, subst, _∙_}

@@ -1,4 +1,5 @@
--- Demand 2 of cards: what was written is accepted as of its kind and read back, and accepted bytes are those that the writer of their kind makes of what the reader gives.
+-- Demand 2 of cards: what was written is accepted as of its kind and read back, and accepted bytes are those
+-- that the writer of their kind makes of what the reader gives.
 -- Assumes nothing.
 use Prim.Native.Nat.{ℕ, _≤_}
 use mathlib.Core.Path.{_≡_, refl, sym, ap, ap₂, subst, _∙_}

@@ -1,5 +1,5 @@
--- The two writers as one: what a call of either promises, and that its kind of card is one of those that there are;
--- and which it is, by the number of its head.
+-- The two writers as one: what a call of either promises, that its kind of card is one of those that there
+-- are, and which it is, by the number of its head.
 -- Assumes nothing.
 use mathlib.Core.Path.{_≡_, refl, sym, ap, _∙_}
 use mathlib.Core.Logic.{inl, inr}

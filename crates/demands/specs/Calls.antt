@@ -67,7 +67,8 @@ first-minute c = c .arguments .0
 abbrev pub log : A-mean → List ℕ
 log c = now (c .arguments .1 .0)
 
--- ---- kaihveto_fit(minutes, ordinates, slopes, curvatures), kaihveto_fit_ends(.., left, slope, curvature, right, slope, curvature),
+-- ---- kaihveto_fit(minutes, ordinates, slopes, curvatures),
+-- kaihveto_fit_ends(.., left, slope, curvature, right, slope, curvature),
 -- kaihveto_fit_slopes(minutes, ordinates, slopes, curvatures)
 
 abbrev pub A-fit : Type 0

@@ -72,7 +72,7 @@ No-card r = r .number ≢ 0 → (r .knots ≡ 0) × (r .left ≡ 0) × (r .right
 abbrev pub No-swing : Swung → Type 0
 No-swing r = r .number ≢ 0 → (r .knot ≡ 0) × (r .minute ≡ 0) × (r .below ≡ 0) × (r .above ≡ 0)
 
--- an answer to a fit, by its order: 3, 1, 2, 15; per knot 4, 5, 6; 7, or 9 for slopes that are given; 8; 9; 10
+-- an answer to a fit, by its order: 3, 1, 2, 15; per knot 4, 5, 6; 7, or 9 for given slopes; 8; 9; 10
 abbrev pub Fit-says : Fitting → Type 0
 Fit-says f = Says (the-fit f) (f .answer .number) (f .answer .place)
 
@@ -145,7 +145,8 @@ pub record Demand-1 : Type 0 where
 -- ---- 2. "The fit is exactly the elimination that the paper prescribes, each operation rounded once; logs give the stated mean; writing a sound card and reading it returns it, and
 -- accepted bytes are those that the writer makes."
 
--- the pairs of the elimination, which is defined over binary64 with one rounding an operation, in card units; slopes that are given are left as they are
+-- the pairs of the elimination, which is defined over binary64 with one rounding an operation, in card units;
+-- slopes that are given are left as they are
 pub record Eliminates (f : Fitting) : Type 0 where
   pub slopes : f .slopes′ ≡ slopes-by (f .job) (f .minutes) (f .ordinates)
   pub curvatures : f .curvatures′ ≡ curvatures-by (f .job) (f .minutes) (f .ordinates)
@@ -225,11 +226,13 @@ pub record Demand-2 : Type 0 where
   -- an accepted card is told: as many knots, these codes, and of the kind that its head names
   pub check-tells : (c : A-check) → c .answer .number ≡ 0 → Accepts-as (kind-by (checked-bytes c)) (card-of (checked-bytes c)) (c .answer)
   pub read-tells : (r : A-read) → r .answer .number ≡ 0 → Accepts-as (kind-by (read-bytes r)) (card-of (read-bytes r)) (r .answer)
-  -- "writing a sound card and reading it returns it": what was written is accepted as of its kind, and read back as it was
+  -- "writing a sound card and reading it returns it": what was written is accepted as of its kind, and read
+  -- back as it was
   pub written-is-checked : (w : A-writing) (c : A-check) → write-answer w .number ≡ 0 → checked-bytes c ≡ written-bytes w → Accepts-as (written-kind w) (written-card w) (c .answer)
   pub written-is-read : (w : A-writing) (r : A-read) → write-answer w .number ≡ 0 → read-bytes r ≡ written-bytes w → Room-for (knots (written-card w)) (places r) →
       Accepts-as (written-kind w) (written-card w) (r .answer) × (front (r .answer .knots) (places′ r) (r .answer .left) (r .answer .right) ≡ written-card w)
-  -- "and accepted bytes are those that the writer makes": the writer of the kind that was told, of what the reader gives
+  -- "and accepted bytes are those that the writer makes": the writer of the kind that was told, of what the
+  -- reader gives
   pub checked-is-written : (c : A-check) (r : A-read) (w : A-writing) → c .answer .number ≡ 0 → written-kind w .head ≡ c .answer .kind
       → read-bytes r ≡ checked-bytes c → r .answer .number ≡ 0
       → written-card w ≡ front (r .answer .knots) (places′ r) (r .answer .left) (r .answer .right) → length (checked-bytes c) ≤ length (buffer w)
@@ -323,7 +326,8 @@ pub record Off (s : List ℕ) : Type 0 where
   -- "third and fourth derivatives jump by no more than is allowed", as far as the card's kind asks for them
   pub jumps : (i : ℕ) → i + 2 < knots (card-of s) → (o : Order) → T (kind-by s .asks inner o) →
       Jump-within (kind-by s) o (knot (card-of s) i) (knot (card-of s) (i + 1)) (knot (card-of s) (i + 2))
-  -- where the slopes are given there is one exact solution, "every stored curvature of an accepted card is at most 2 card units" from it (document 02, order 8),
+  -- where the slopes are given there is one exact solution, and "every stored curvature of an accepted card is
+  -- at most 2 card units from" it (document 02, order 8),
   pub within-2 : kind-by s ≡ sloped → WithinTwo (card-of s)
   -- and the third derivative is within its allowance "at both ends too"
   pub flat-ends : kind-by s ≡ sloped → FlatEnds (card-of s)
@@ -337,7 +341,8 @@ pub record Half-a-unit (K : Kind) (card : Card) : Type 0 where
 abbrev pub Half-a-unit-held : List ℕ → Type 0
 Half-a-unit-held s = Half-a-unit (kind-by s) (card-of s)
 
--- the order of a fit to slopes before it eliminates, into a list of n places: 3, 1, 2; per knot 4, 5, 6; 9 for the slopes
+-- the order of a fit to slopes before it eliminates, into a list of n places: 3, 1, 2; per knot 4, 5, 6; 9
+-- for the slopes
 abbrev pub before-8-of-slopes : List ℕ → (ordinates slopes : List ℤ) → Verdict
 before-8-of-slopes xs ys ms = lengths (length xs) (length ys) (length ms) (length xs) then counted sloped (length xs) then standing xs ys ms
 
@@ -365,6 +370,8 @@ pub record Demand-3 : Type 0 where
   pub exact-solution : (minutes : List ℕ) (ordinates : List ℤ) (left right : End) → before-8 minutes ordinates left right ≡ accepted → OneSolution minutes ordinates left right
   -- to slopes that are given, of the sheet with these slopes, on which no curvature stands yet
   pub slopes-solution : (minutes : List ℕ) (ordinates slopes : List ℤ) → before-8-of-slopes minutes ordinates slopes ≡ accepted → Sloped.OneSolution (lent minutes ordinates slopes [] 0 0)
+  -- and what such a fit gives is as near to it as an accepted card is
+  pub sloped-within-2 : (c : A-fit-slopes) → c .answer .number ≡ 0 → WithinTwo (sloped-card c)
   -- the sheet that was mended has one
   pub mended-solution : (c : A-mend) → c .answer .number ≡ 0 → OneSolution (sheet-minutes c) (sheet′ c) Free Free
 

@@ -1,4 +1,3 @@
-pub mod Numbers
 pub mod Typed
 pub mod Made
 pub mod Logless

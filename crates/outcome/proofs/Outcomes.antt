@@ -14,6 +14,7 @@ use Rattle.answer.proofs.first.Reads as first
 use Rattle.whole.proofs.nearest_unsigned.Reads as nearest-unsigned
 use Rattle.whole.proofs.nearest.Reads as nearest
 use Rattle.log.proofs.mean_of.Reads as mean-of
+use Rattle.curve.specs.Kind.{Kind}
 use Rattle.curve.specs.Card.{Card}
 use Rattle.record.proofs.Records.{one-found}
 use Rattle.bytes.proofs.read_u16.Reads as read-u16
@@ -26,6 +27,7 @@ use Rattle.record.proofs.is_at.Reads as is-at
 use Rattle.record.proofs.Cursor.new.Reads as cursor-new
 use Rattle.record.proofs.Cursor.read.Reads as cursor-read
 use Rattle.knots.proofs.Kind.quintic.Reads as kind-quintic
+use Rattle.knots.proofs.Kind.sloped.Reads as kind-sloped
 use Rattle.knots.proofs.same_lengths.Reads as same-lengths
 use Rattle.knots.proofs.counted.Reads as counted
 use Rattle.knots.proofs.codes.Reads as codes
@@ -82,6 +84,7 @@ use Rattle.swing.proofs.swing.Reads as swing
 use Rattle.writer.specs.declared.Written.{Written}
 use Rattle.writer.specs.Promise.{Writes}
 use Rattle.writer.proofs.write.Reads as write
+use Rattle.writer.proofs.write_slopes.Reads as write-slopes
 use Rattle.elimination.proofs.no_pair.Reads as no-pair
 use Rattle.elimination.proofs.start.Reads as start
 use Rattle.rows.proofs.gap_of.Reads as row-gap
@@ -90,11 +93,11 @@ use Rattle.rows.proofs.equations_of.Reads as equations-of
 use Rattle.elimination.proofs.back.Reads as row-back
 use Rattle.elimination.proofs.finite.Reads as finite
 use Rattle.elimination.proofs.finite_pair.Reads as finite-pair
-use Rattle.elimination.proofs.judge.Reads as judge-knot
 use Rattle.elimination.proofs.eliminate.Reads as eliminate
+use Rattle.elimination.proofs.judge.Reads as judge
 use Rattle.lines.proofs.hundredths.Reads as hundredths
 use Rattle.lines.proofs.line_of.Reads as line-of
-use Rattle.lines.proofs.eliminate.Reads as eliminate-line
+use Rattle.lines.proofs.eliminate.Reads as line-eliminate
 use Rattle.lines.proofs.back.Reads as line-back
 use Rattle.passes.proofs.pairs_of.Reads as pairs-of
 use Rattle.units.proofs.units_of.Reads as units-of
@@ -109,7 +112,7 @@ use Rattle.fit.proofs.Outcome.{one-fit}
 use Rattle.fit.proofs.fit_between.Reads as fit-between
 use Rattle.fit.proofs.fit_codes.Reads as fit-codes
 use Rattle.fit.proofs.fit.Reads as fit
-use Rattle.slope_fit.proofs.fit.Reads as slope-fit
+use Rattle.slope_fit.proofs.fit.Reads as fit-slopes
 use Rattle.refit.specs.declared.Refitted.{Refitted}
 use Rattle.refit.specs.Promise.{Refits}
 use Rattle.refit.proofs.refit.Reads as refit
@@ -147,6 +150,7 @@ use Rattle.numeral.proofs.starts.Reads as starts
 use Rattle.numeral.proofs.plain.Reads as plain
 use Rattle.numeral.proofs.Number.natural.Reads as natural
 use Rattle.numeral.proofs.Ordinate.of.Reads as ordinate-of
+use Rattle.numeral.proofs.Signed.of.Reads as signed-of
 use Rattle.text.proofs.blamed.Reads as blamed
 use Rattle.text.proofs.log_name.Reads as log-name
 use Rattle.text.proofs.Sheet.read.Reads as text-read
@@ -196,7 +200,9 @@ use Rattle.kaihveto.proofs.kaihveto_version.Reads as c-version
 use Rattle.kaihveto.proofs.kaihveto_mean.Reads as c-mean
 use Rattle.kaihveto.proofs.kaihveto_fit.Reads as c-fit
 use Rattle.kaihveto.proofs.kaihveto_fit_ends.Reads as c-fit-ends
+use Rattle.kaihveto.proofs.kaihveto_fit_slopes.Reads as c-fit-slopes
 use Rattle.kaihveto.proofs.kaihveto_write.Reads as c-write
+use Rattle.kaihveto.proofs.kaihveto_write_slopes.Reads as c-write-slopes
 use Rattle.kaihveto.proofs.kaihveto_check.Reads as c-check
 use Rattle.kaihveto.proofs.kaihveto_read.Reads as c-read
 use Rattle.kaihveto.proofs.kaihveto_reading.Reads as c-reading
@@ -223,9 +229,9 @@ module _ {K A X S B : Type 0} {Post : K → A → X → S → Type 0} (More : K 
   with-more : Leaves Post left → Leaves (λ κs a x s. Post κs a x s × More κs a x s) left
   with-more once κs a x y s t p q = once κs a x y s t (p .0) (q .0)
 
-module _ {K A S : Type 0} (card : K → A → Card) (entry : K → A → List ℕ) (exit : S → List ℕ) where
+module _ {K A S : Type 0} (kind : Kind) (card : K → A → Card) (entry : K → A → List ℕ) (exit : S → List ℕ) where
   abbrev Writing : K → A → Written → S → Type 0
-  Writing κs a x s = Writes (card κs a) (entry κs a) (exit s) x
+  Writing κs a x s = Writes kind (card κs a) (entry κs a) (exit s) x
 
   writing : Once Writing × Lent Writing exit
   writing = ((λ κs a x y s t p q. one-outcome (p .answer) (q .answer)), λ κs a x y s t p q. one-outcome (p .buffer) (q .buffer))
@@ -280,13 +286,13 @@ module _ {K A S : Type 0} (fit : K → A → Answer Card) (ms Ms : K → A → L
   fitting : Once Fitting × Lent Fitting ms′ × Lent Fitting Ms′
   fitting = ((λ κs a x y s t p q. one-fit p q .0), (λ κs a x y s t p q. one-fit p q .1), λ κs a x y s t p q. one-fit p q .2)
 
+-- the slopes are lent to be read
 module _ {K A S : Type 0} (fit : K → A → Answer Card) (ms Ms : K → A → List ℤ) (Ms′ : S → List ℤ) where
-  -- the slopes are lent to be read
-  abbrev Slope-fitting : K → A → Fitted → S → Type 0
-  Slope-fitting κs a x s = Fits (fit κs a) (ms κs a) (Ms κs a) (ms κs a) (Ms′ s) x
+  abbrev Fitting-curvatures : K → A → Fitted → S → Type 0
+  Fitting-curvatures κs a x s = Fits (fit κs a) (ms κs a) (Ms κs a) (ms κs a) (Ms′ s) x
 
-  slope-fitting : Once Slope-fitting × Lent Slope-fitting Ms′
-  slope-fitting = ((λ κs a x y s t p q. one-fit p q .0), λ κs a x y s t p q. one-fit p q .2)
+  fitting-curvatures : Once Fitting-curvatures × Lent Fitting-curvatures Ms′
+  fitting-curvatures = ((λ κs a x y s t p q. one-fit p q .0), λ κs a x y s t p q. one-fit p q .2)
 
 module _ {K A S : Type 0} (bytes : K → A → List ℕ) (ms Ms : K → A → List ℤ) (ms′ Ms′ : S → List ℤ) where
   abbrev Refitting : K → A → Refitted → S → Type 0
@@ -393,8 +399,8 @@ records = (equation _ _, (λ κs a x y s t p q. ap (λ n. record { at = n }) (on
 pub minutes : Once back.Post × Once on.Post × Once left-gap.Post × Once right-gap.Post × Once wider-gap.Post × Once outside.Post × Once find.Post
 minutes = (equation _ _, equation _ _, equation _ _, equation _ _, equation _ _, judgement _, equation _ _)
 
-pub knots : Once kind-quintic.Post × Once same-lengths.Post × Once counted.Post × Once codes.Post × Once sized.Post × Once room.Post × Once stand.Post × Once in-range.Post
-knots = (equation _ _, judgement _, judgement _, judgement _, judgement _, judgement _, judgement _, λ κs a x y s t p q. one-judgement (p [] 0 0) (q [] 0 0))
+pub knots : Once kind-quintic.Post × Once kind-sloped.Post × Once same-lengths.Post × Once counted.Post × Once codes.Post × Once sized.Post × Once room.Post × Once stand.Post × Once in-range.Post
+knots = (equation _ _, equation _ _, judgement _, judgement _, judgement _, judgement _, judgement _, judgement _, λ κs a x y s t p q. one-judgement (p [] 0 0) (q [] 0 0))
 
 pub one-gap : Once mirrored.Post × Once sheet-of.Post × Once weights-of.Post × Once parts-of.Post × Once numerator.Post × Once denominator.Post × Once reading-between.Post
 one-gap = (equation _ _, equation _ _, equation _ _, equation _ _, equation _ _, equation _ _, equation _ _)
@@ -442,7 +448,11 @@ card-swung = (equation _ _, equation _ _)
 
 -- the buffer is the seventh
 pub card-written : Once write.Post × Lent write.Post (λ s. now (s .1 .1 .1 .1 .1 .1 .0))
-card-written = writing _ _ _
+card-written = writing _ _ _ _
+
+-- here the fifth
+pub sloped-card-written : Once write-slopes.Post × Lent write-slopes.Post (λ s. now (s .1 .1 .1 .1 .0))
+sloped-card-written = writing _ _ _ _
 
 -- ---- a book
 
@@ -463,10 +473,10 @@ put-in-a-book = putting-in _ _ _
 pub rows : Once row-gap.Post × Once empty-gap.Post × Once equations-of.Post
 rows = (equation _ _, equation _ _, equation _ _)
 
-pub elimination : Once no-pair.Post × Once start.Post × Once row-back.Post × Once finite.Post × Once finite-pair.Post × Once judge-knot.Post × Once eliminate.Post
+pub elimination : Once no-pair.Post × Once start.Post × Once row-back.Post × Once finite.Post × Once finite-pair.Post × Once eliminate.Post × Once judge.Post
 elimination = (equation _ _, equation _ _, equation _ _, equation _ _, equation _ _, equation _ _, equation _ _)
 
-pub lines : Once hundredths.Post × Once line-of.Post × Once eliminate-line.Post × Once line-back.Post
+pub lines : Once hundredths.Post × Once line-of.Post × Once line-eliminate.Post × Once line-back.Post
 lines = (equation _ _, equation _ _, equation _ _, equation _ _)
 
 pub passes : Once pairs-of.Post × Once units-of.Post × Once scale.Post × Lent write-numbers.Post (λ s. now (s .0))
@@ -485,8 +495,8 @@ fit-by-codes = fitting _ _ _ _ _
 pub fit-without-ends : Once fit.Post × Lent fit.Post (λ s. now (s .1 .1 .0)) × Lent fit.Post (λ s. now (s .1 .1 .1 .0))
 fit-without-ends = fitting _ _ _ _ _
 
-pub fit-by-slopes : Once slope-fit.Post × Lent slope-fit.Post (λ s. now (s .1 .1 .1 .0))
-fit-by-slopes = slope-fitting _ _ _ _
+pub fit-to-slopes : Once fit-slopes.Post × Lent fit-slopes.Post (λ s. now (s .1 .1 .1 .0))
+fit-to-slopes = fitting-curvatures _ _ _ _
 
 -- here the second and the third
 pub fit-anew : Once refit.Post × Lent refit.Post (λ s. now (s .1 .0)) × Lent refit.Post (λ s. now (s .1 .1 .0))
@@ -561,8 +571,8 @@ listed = putting _ _ _ _
 pub split : Once split-stop.Post × Leaves split-until.Post (λ x s. now x) × Leaves split-from.Post (λ x s. now x) × Leaves split-past.Post (λ x s. now x) × Leaves line-at.Post (λ x s. now x)
 split = (equation _ _, equation _ _, equation _ _, equation _ _, equation _ _)
 
-pub numeral : Once starts.Post × Once plain.Post × Once natural.Post × Once ordinate-of.Post
-numeral = (equation _ _, equation _ _, equation _ _, equation _ _)
+pub numeral : Once starts.Post × Once plain.Post × Once natural.Post × Once ordinate-of.Post × Once signed-of.Post
+numeral = (equation _ _, equation _ _, equation _ _, equation _ _, equation _ _)
 
 pub text : Leaves blamed.Post (λ x s. now x) × Leaves log-name.Post (λ x s. now x) × Once text-read.Post
 text = (equation _ _, equation _ _, equation _ _)
@@ -612,11 +622,17 @@ boundary-fit = fitting _ _ _ _ _
 pub boundary-fit-ends : Once c-fit-ends.Post × Lent c-fit-ends.Post (λ s. now (s .1 .1 .0)) × Lent c-fit-ends.Post (λ s. now (s .1 .1 .1 .0))
 boundary-fit-ends = fitting _ _ _ _ _
 
+pub boundary-fit-slopes : Once c-fit-slopes.Post × Lent c-fit-slopes.Post (λ s. now (s .1 .1 .1 .0))
+boundary-fit-slopes = fitting-curvatures _ _ _ _
+
 pub boundary-read : Once c-read.Post × Four (λ s. now (s .1 .0)) (λ s. now (s .1 .1 .0)) (λ s. now (s .1 .1 .1 .0)) (λ s. now (s .1 .1 .1 .1 .0)) c-read.Post
 boundary-read = reading-into _ _ _
 
 pub boundary-written : Once c-write.Post × Lent c-write.Post (λ s. now (s .1 .1 .1 .1 .1 .1 .0))
-boundary-written = let w = writing _ _ _ in (with-more _ _ (w .0), with-more _ _ (w .1))
+boundary-written = let w = writing _ _ _ _ in (with-more _ _ (w .0), with-more _ _ (w .1))
+
+pub boundary-sloped-written : Once c-write-slopes.Post × Lent c-write-slopes.Post (λ s. now (s .1 .1 .1 .1 .0))
+boundary-sloped-written = let w = writing _ _ _ _ in (with-more _ _ (w .0), with-more _ _ (w .1))
 
 pub boundary-tabled : Once c-table.Post × Lent c-table.Post (λ s. now (s .1 .1 .0)) × Lent c-table.Post (λ s. now (s .1 .1 .1 .0)) × Lent c-table.Post (λ s. now (s .1 .1 .1 .1 .0))
 boundary-tabled = tabling _ _ _ _
