@@ -52,8 +52,8 @@ use Rattle.reply.specs.Mending.{room as places, mend-reply, mending-reply}
 use Rattle.reply.proofs.Gathers.{Roomy, roomy}
 use Rattle.reply.proofs.Lists.{minutes-hold}
 use Rattle.kaihveto.specs.Types.{Minutes}
-use Rattle.demands.proofs.Numbers.{typed}
 use Rattle.demands.proofs.Numbered.{says}
+use Rattle.demands.proofs.Numbers.{typed}
 use Rattle.made_card.specs.Made.{sheet-knots, sheet-kind, sheet-fit, sheet-mend, sheet-faults, made-bytes, Made}
 use Rattle.made_card.proofs.Typed.{minutes-front, minutes-typed, minutes-gathered}
 use Rattle.mending.proofs.Numbered.{mend-numbered}
