@@ -1,6 +1,6 @@
 /* lister in portable C11. This file is written by portable/write and not by hand: it is the MIR of the crate lister
    as C, and that MIR is what the prover has proved. SHA-256 of the MIR:
-   46fa6f5b542a3af8af0b19ec762961dfdda504d44bc74f58b0048bd92c7c8e09
+   951d03968a9b0be46342d37b6d30997acc0ab05aa632db3f0f06fd1b5ffc3abb
    Not proved: this translation and the C compiler; docs/TRUST.md says what was compared, and where.
 
    Names are the sources'. An integer is its bits, so it is unsigned, and s64(x) is the signed number of x's bits. A list
@@ -41,6 +41,7 @@ enum { answer_Judged_Accepted, answer_Judged_Refused };
 typedef union answer_Judged answer_Judged;
 typedef struct list_u8 list_u8;
 typedef struct card_Checked card_Checked;
+typedef struct knots_Kind knots_Kind;
 typedef struct array_u16_64 array_u16_64;
 typedef struct array_u32_64 array_u32_64;
 typedef struct decode_Card decode_Card;
@@ -59,7 +60,6 @@ typedef struct jumps_Spans jumps_Spans;
 typedef struct gaps_Knot gaps_Knot;
 enum { jumps_Order_Third, jumps_Order_Fourth };
 typedef union jumps_Order jumps_Order;
-typedef struct knots_Kind knots_Kind;
 typedef struct list_u16 list_u16;
 typedef struct list_u32 list_u32;
 typedef struct array_u8_3 array_u8_3;
@@ -81,13 +81,22 @@ struct list_u8 {
     uint64_t length;
 };
 
-/* card::Checked. Zeros behind a refusal. */
+/* card::Checked. The kind of card is its head's: 1 or 6. Zeros behind a refusal. */
 struct card_Checked {
     uint32_t number;
     uint32_t place;
     uint32_t knots;
     uint32_t left;
     uint32_t right;
+    uint32_t kind;
+};
+
+/* knots::Kind. What differs between kinds of card; what they share is below. */
+struct knots_Kind {
+    uint16_t head;
+    uint16_t code;
+    uint8_t squares;
+    bool fourth;
 };
 
 struct array_u16_64 {
@@ -109,10 +118,11 @@ struct decode_Card {
     array_u32_64 curvatures;
 };
 
-/* opened::Opened. The card is there wherever the records are in order, also where 4, 5, 6, 9 or 10 refuses
-   it; elsewhere it has zeros alone. */
+/* opened::Opened. The kind of card is what it was judged as. The card is there wherever the records are in
+   order, also where 4, 5, 6, 9 or 10 refuses it; elsewhere it has zeros alone. */
 struct opened_Opened {
     answer_Judged verdict;
+    knots_Kind kind;
     decode_Card card;
 };
 
@@ -194,13 +204,6 @@ union jumps_Order {
     uint8_t tag;
 };
 
-/* knots::Kind. What differs between kinds of card; what they share is below. */
-struct knots_Kind {
-    uint16_t code;
-    uint8_t squares;
-    bool fourth;
-};
-
 struct list_u16 {
     const uint16_t *at;
     uint64_t length;
@@ -257,7 +260,7 @@ static uint16_t bytes_read_u16(list_u8 list, uint64_t at);
 static uint32_t bytes_read_u32(list_u8 list, uint64_t at);
 static uint16_t bytes_signed16(uint16_t bits);
 static uint32_t bytes_signed32(uint32_t bits);
-static card_Checked card_Checked_of(answer_Judged verdict, decode_Card card);
+static card_Checked card_Checked_of(answer_Judged verdict, knots_Kind kind, decode_Card card);
 static answer_Judged card_into(opened_Opened opened, uint64_t minutes, uint64_t ordinates, uint64_t slopes, uint64_t curvatures);
 static card_Checked card_read(list_u8 card, mut_list_u16 minutes, mut_list_u16 ordinates, mut_list_u32 slopes, mut_list_u32 curvatures);
 static answer_Judged card_bytes_due(list_u8 list, uint64_t at, uint16_t kind, uint16_t length);
@@ -291,6 +294,7 @@ static uint64_t jumps_crossed(uint64_t a, uint64_t p, uint64_t b, uint64_t q);
 static bool jumps_meet(jumps_Span left, jumps_Span right);
 static bool jumps_over(uint64_t jump, uint64_t allowed);
 static knots_Kind knots_Kind_quintic(void);
+static knots_Kind knots_Kind_sloped(void);
 static bool knots_beyond(uint32_t limit, uint32_t z);
 static answer_Judged knots_codes(knots_Kind kind, uint16_t left, uint16_t right);
 static answer_Judged knots_counted(uint64_t n);
@@ -331,9 +335,10 @@ static uint64_t minutes_on(uint64_t n, uint64_t i);
 static uint16_t minutes_right_gap(list_u16 xs, uint64_t i);
 static uint16_t minutes_wider_gap(list_u16 xs, uint64_t i);
 static opened_Opened opened_Opened_by_head(list_u8 card);
-static opened_Opened opened_Opened_of(knots_Kind kind, uint16_t head, list_u8 card);
+static opened_Opened opened_Opened_of(knots_Kind kind, list_u8 card);
 static answer_Judged opened_behind_head(knots_Kind kind, list_u8 card);
-static answer_Judged opened_shaped(knots_Kind kind, uint16_t head, list_u8 card);
+static knots_Kind opened_kind_by(list_u8 card);
+static answer_Judged opened_shaped(knots_Kind kind, list_u8 card);
 static answer_Judged opened_sound(knots_Kind kind, decode_Card card);
 static record_Cursor record_Cursor_new(uint64_t at);
 static record_Found record_Cursor_read(record_Cursor self, list_u8 list, uint16_t kind, uint16_t length);
@@ -420,15 +425,15 @@ static uint32_t bytes_signed32(uint32_t bits)
 }
 
 /* card::Checked::of */
-static card_Checked card_Checked_of(answer_Judged verdict, decode_Card card)
+static card_Checked card_Checked_of(answer_Judged verdict, knots_Kind kind, decode_Card card)
 {
     uint32_t number, place;
     if (verdict.tag == answer_Judged_Refused) {
         number = verdict.Refused.f0;
         place = verdict.Refused.f1;
-        return (card_Checked){number, place, 0u, 0u, 0u};
+        return (card_Checked){number, place, 0u, 0u, 0u, 0u};
     } else {
-        return (card_Checked){0u, 0u, (uint32_t)card.knots, (uint32_t)card.left, (uint32_t)card.right};
+        return (card_Checked){0u, 0u, (uint32_t)card.knots, (uint32_t)card.left, (uint32_t)card.right, (uint32_t)kind.head};
     }
 }
 
@@ -461,11 +466,11 @@ static card_Checked card_read(list_u8 card, mut_list_u16 minutes, mut_list_u16 o
     opened = opened_Opened_by_head(card);
     verdict = card_into(opened, minutes.length, ordinates.length, slopes.length, curvatures.length);
     if (verdict.tag == answer_Judged_Refused) {
-        return card_Checked_of(verdict, opened.card);
+        return card_Checked_of(verdict, opened.kind, opened.card);
     } else {
     }
     decode_Card_give(opened.card, (mut_list_u16){minutes.at, minutes.length}, (mut_list_u16){ordinates.at, ordinates.length}, (mut_list_u32){slopes.at, slopes.length}, (mut_list_u32){curvatures.at, curvatures.length});
-    return card_Checked_of(verdict, opened.card);
+    return card_Checked_of(verdict, opened.kind, opened.card);
 }
 
 /* card_bytes::due. A record that is due at an offset. */
@@ -908,7 +913,13 @@ static bool jumps_over(uint64_t jump, uint64_t allowed)
 /* knots::Kind::quintic */
 static knots_Kind knots_Kind_quintic(void)
 {
-    return (knots_Kind){2, 16, true};
+    return (knots_Kind){1, 2, 16, true};
+}
+
+/* knots::Kind::sloped. Document 02, order 8: the slopes are given. */
+static knots_Kind knots_Kind_sloped(void)
+{
+    return (knots_Kind){6, 0, 0, false};
 }
 
 /* knots::beyond. Beyond a limit, on either side. */
@@ -1377,26 +1388,26 @@ static uint16_t minutes_wider_gap(list_u16 xs, uint64_t i)
 static opened_Opened opened_Opened_by_head(list_u8 card)
 {
     knots_Kind v2;
-    v2 = knots_Kind_quintic();
-    return opened_Opened_of(v2, 1, card);
+    v2 = opened_kind_by(card);
+    return opened_Opened_of(v2, card);
 }
 
 /* opened::Opened::of. As a card of a kind, with that kind's head. */
-static opened_Opened opened_Opened_of(knots_Kind kind, uint16_t head, list_u8 card)
+static opened_Opened opened_Opened_of(knots_Kind kind, list_u8 card)
 {
     uint32_t number, place;
-    decode_Card held, v10;
-    answer_Judged v7, v11;
-    v7 = opened_shaped(kind, head, card);
-    if (v7.tag == answer_Judged_Refused) {
-        number = v7.Refused.f0;
-        place = v7.Refused.f1;
-        v10 = decode_Card_none();
-        return (opened_Opened){(answer_Judged){.Refused = {answer_Judged_Refused, number, place}}, v10};
+    decode_Card held, v9;
+    answer_Judged v6, v10;
+    v6 = opened_shaped(kind, card);
+    if (v6.tag == answer_Judged_Refused) {
+        number = v6.Refused.f0;
+        place = v6.Refused.f1;
+        v9 = decode_Card_none();
+        return (opened_Opened){(answer_Judged){.Refused = {answer_Judged_Refused, number, place}}, kind, v9};
     } else {
         held = decode_Card_of(card);
-        v11 = opened_sound(kind, held);
-        return (opened_Opened){v11, held};
+        v10 = opened_sound(kind, held);
+        return (opened_Opened){v10, kind, held};
     }
 }
 
@@ -1423,15 +1434,28 @@ static answer_Judged opened_behind_head(knots_Kind kind, list_u8 card)
     }
 }
 
+/* opened::kind_by. Order 8's kind where its head stands; else document 01's, whose head is then due. */
+static knots_Kind opened_kind_by(list_u8 card)
+{
+    knots_Kind sloped;
+    bool v3;
+    sloped = knots_Kind_sloped();
+    v3 = record_is_at(card, 0ull, sloped.head, 6);
+    if (v3) {
+        return sloped;
+    }
+    return knots_Kind_quintic();
+}
+
 /* opened::shaped. Head 14 before them. */
-static answer_Judged opened_shaped(knots_Kind kind, uint16_t head, list_u8 card)
+static answer_Judged opened_shaped(knots_Kind kind, list_u8 card)
 {
     uint32_t number, place;
-    answer_Judged v6;
-    v6 = card_bytes_head_due(card, head);
-    if (v6.tag == answer_Judged_Refused) {
-        number = v6.Refused.f0;
-        place = v6.Refused.f1;
+    answer_Judged v5;
+    v5 = card_bytes_head_due(card, kind.head);
+    if (v5.tag == answer_Judged_Refused) {
+        number = v5.Refused.f0;
+        place = v5.Refused.f1;
         return (answer_Judged){.Refused = {answer_Judged_Refused, number, place}};
     } else {
         return opened_behind_head(kind, card);
