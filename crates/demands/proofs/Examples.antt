@@ -52,6 +52,7 @@ use Rattle.fit.proofs.Table3.{fits-are}
 use Rattle.slope_fit.specs.SlopesFit.{slopes-fit}
 use Rattle.slope_fit.proofs.Card as Slopes
 use Rattle.slope_fit.proofs.Rows.{rows-hold}
+use Rattle.sloped.specs.Sloped.{WithinTwo}
 use Rattle.holes.specs.Hole.{hole, mended}
 use Rattle.mend.specs.Changes.{changes}
 use Rattle.mend.specs.Order.{mend}
@@ -192,6 +193,16 @@ sloped-accepted = subst (λ c. verdict sloped c ≡ accepted) (Slopes.its-own _ 
 abbrev sloped-bytes : List ℕ
 sloped-bytes = bytes-of sloped sloped-p1
 
+-- accepted by that kind's test; they hold the card, on which minute 4 stands
+sloped-bytes-accepted : own sloped-bytes ≡ accepted
+sloped-bytes-accepted = ByHead.read-back (inr refl) sloped-p1 (typed (inr refl) sloped-p1 sloped-accepted minutes-typed) sloped-accepted .accepts
+
+on-the-sloped-bytes : On-the-card (card-of sloped-bytes) 4
+unfolding knots knot
+on-the-sloped-bytes =
+    let held = ByHead.read-back (inr refl) sloped-p1 (typed (inr refl) sloped-p1 sloped-accepted minutes-typed) sloped-accepted .card in
+    subst (λ c. On-the-card c 4) (sym held) minute-4
+
 -- and its list of slopes for each column of a table
 abbrev columns-for : Columns
 columns-for = record { values = p1 .slopes; slopes = p1 .slopes; curvatures = p1 .slopes }
@@ -324,12 +335,24 @@ module _ (lifetime : Lft) (pointer : ℕ × ℕ) (name : GName) where
         promised = (refl, card-bytes sloped sloped-p1);
       }
 
-  pub check-tells-6 : (check-slopes-call .answer .number ≡ 0) × (check-slopes-call .answer .kind ≡ 6)
-  unfolding checked sloped
-  check-tells-6 =
-      let back = ByHead.read-back (inr refl) sloped-p1 (typed (inr refl) sloped-p1 sloped-accepted minutes-typed) sloped-accepted in
-      let zero = ap (λ v. checked v (kind-by sloped-bytes) (card-of sloped-bytes) .number) (back .accepts) in
-      (zero, hold-all .two .check-tells check-slopes-call zero .kind ∙ ap (λ K. K .head) (back .kind))
+  pub check-slopes-accepts : check-slopes-call .answer .number ≡ 0
+  unfolding checked
+  check-slopes-accepts = ap (λ v. checked v (kind-by sloped-bytes) (card-of sloped-bytes) .number) sloped-bytes-accepted
+
+  pub check-tells-6 : check-slopes-call .answer .kind ≡ 6
+  unfolding sloped
+  check-tells-6 = hold-all .two .check-tells check-slopes-call check-slopes-accepts .kind ∙ ap (λ K. K .head) (written-kind (inr refl) sloped-p1)
+
+  -- it is read off, and its curvatures are within 2 units of the one exact solution
+  abbrev pub reading-slopes-call : A-reading
+  reading-slopes-call =
+      record { lifetimes = (lifetime, tt); arguments = (list sloped-bytes, (4, tt)); answer = read-off sloped-bytes 4; exit = (list sloped-bytes, (4, tt)); promised = refl }
+
+  pub reading-slopes-accepts : reading-slopes-call .answer .number ≡ 0
+  reading-slopes-accepts = hold-all .three .off check-slopes-call check-slopes-accepts .close reading-slopes-call refl on-the-sloped-bytes .0
+
+  pub two-units : WithinTwo (card-of sloped-bytes)
+  two-units = hold-all .three .off check-slopes-call check-slopes-accepts .within-2 (written-kind (inr refl) sloped-p1)
 
   abbrev pub mean-call : A-mean
   mean-call =
