@@ -9,9 +9,9 @@ ghost use lib.ListN.{length, getD};
 ghost use Rattle.lines.specs.Lines.{hundredths};
 ghost use Rattle.passes.specs.Sheet.{most, Rising, end-of, knot-between, right-gap, slope-before, slope-after, line-between};
 ghost use Rattle.passes.specs.Jobs.{between-by, step-by, turn-by};
-ghost use Rattle.passes.specs.Forward.{no-state, Forwarded};
+ghost use Rattle.passes.specs.Forward.{Forwarded};
 ghost use Rattle.passes.specs.Back.{turned};
-ghost use Rattle.passes.specs.Passes.{refused, back-from, passes};
+ghost use Rattle.passes.specs.Passes.{refused, passes};
 use elimination::State;
 use elimination::Step;
 use rows::End;
@@ -199,17 +199,26 @@ fn refuse(place: u32) -> Solved
     }
 }
 
-fn back_pass(job: Job, states: [State; MOST], n: usize) -> Solved
-    requires { ⌜ n ≤ most ⌝ }
-    ensures { λ r. ⌜ r ≡ back-from (turn-by job) (λ k. getD states k no-state) n ⌝ }
+// The slope and the curvature of each knot, in hundredths per minute (squared): forward, then back. The
+// slopes are read only where they are what is given. Both passes stand in one function, since whoever hands
+// the states on copies them, and they are a third of a fit's stack.
+pub fn pairs_of(minutes: &[u16], ordinates: &[i16], slopes: &[i32], job: Job) -> Solved
+    requires { ⌜ (length (now minutes) ≤ most) × (length (now ordinates) ≡ length (now minutes)) × (length (now slopes) ≡ length (now minutes)) ⌝ }
+    requires { ⌜ Rising (now minutes) ⌝ }
+    ensures { λ r. ⌜ r ≡ passes (step-by (now (minutes .entry)) (now (ordinates .entry)) (now (slopes .entry)) job) (turn-by job) (length (now (minutes .entry))) ⌝ }
 {
+    let f = forward_pass(minutes, ordinates, slopes, job);
+    if f.number != 0 {
+        return refuse(f.place);
+    }
+    let n = minutes.len();
     let zero = elimination::no_pair();
     let mut pairs = [zero; MOST];
     let mut next = zero;
     let mut j = 0;
     while j < n {
         let k = n - 1 - j;
-        let x = states[k];
+        let x = f.states[k];
         let v = pair_before(job, x, next, j);
         if elimination::finite_pair(v) {
             pairs[k] = v;
@@ -223,21 +232,5 @@ fn back_pass(job: Job, states: [State; MOST], n: usize) -> Solved
         number: 0,
         place: 0,
         pairs,
-    }
-}
-
-// The slope and the curvature of each knot, in hundredths per minute (squared): forward, then back. The
-// slopes are read only where they are what is given.
-pub fn pairs_of(minutes: &[u16], ordinates: &[i16], slopes: &[i32], job: Job) -> Solved
-    requires { ⌜ (length (now minutes) ≤ most) × (length (now ordinates) ≡ length (now minutes)) × (length (now slopes) ≡ length (now minutes)) ⌝ }
-    requires { ⌜ Rising (now minutes) ⌝ }
-    ensures { λ r. ⌜ r ≡ passes (step-by (now (minutes .entry)) (now (ordinates .entry)) (now (slopes .entry)) job) (turn-by job) (length (now (minutes .entry))) ⌝ }
-{
-    let f = forward_pass(minutes, ordinates, slopes, job);
-    if f.number == 0 {
-        let states = f.states;
-        back_pass(job, states, minutes.len())
-    } else {
-        refuse(f.place)
     }
 }
