@@ -1,6 +1,7 @@
 -- What a gap gives to the jump test, as the code writes it, is its two sides; of no gap it is nothing; and
 -- where two gaps meet, what they give is compared as `jump` and `allowance` have it. Assumes nothing.
 use mathlib.Core.Path.{_≡_, refl, ap₂}
+use mathlib.Core.Bool.{Bool, true, false}
 use mathlib.Core.List.{List, [], _∷_}
 use Prim.Native.Nat.{_+_, _*_, _≤_, _<_, _^_}
 use native.Mathlib.Nat.{mul-le-mul}
@@ -16,7 +17,7 @@ use Rattle.gaps.proofs.Minutes.{gap-size}
 use Rattle.jumps.specs.declared.Order.{Order}
 use Rattle.jumps.specs.declared.Order.the-variants.{Third, Fourth}
 use Rattle.jumps.specs.Sides.{order-of, side, opposed, left-side, clears, jump-of, leeway, leeways, past}
-use Rattle.jumps.specs.Spans.{span, spans, no-spans, met-jump, met-leeways}
+use Rattle.jumps.specs.Spans.{span, no-span, span-if, spans, no-spans, met-jump, met-leeways}
 use Rattle.jumps.specs.Limits.{Beside, Tried, Meeting}
 use Rattle.jumps.proofs.Comparing.{rise, sideE, opposedE, opposed-size, leeway-size, clears-most, h-gap, q-gap, products-fit}
 
@@ -37,29 +38,34 @@ behinds o h y m k y′ m′ k′ = (behindE o h y m k y′ m′ k′, opposedE o
 
 -- ---- no gap
 
-module _ (square : ℤ) (k : Knot) where
-  abbrev own : List ℤ
-  own = square ∷ k .ordinate ∷ k .slope ∷ k .curvature ∷ []
+module _ (k : Knot) where
+  abbrev own : ℤ → List ℤ
+  own square = square ∷ k .ordinate ∷ k .slope ∷ k .curvature ∷ []
 
-  pub spans-none : spans square (pos 0) k k ≡ no-spans
-  unfolding spans span side opposed mirror leeway clear degree
-  spans-none = λ i.
+  span-none : (o : Order) (square : ℤ) → span o square (pos 0) k k ≡ no-span
+  unfolding span side opposed mirror leeway clear degree
+  span-none Third square = λ i.
       record {
-        third =
-            record {
-              ahead = ring own (λ s y m c. (sideE Third (# 0) y m c y m c, # 0)) tt i;
-              behind = ring own (λ s y m c. (sideE Third (# 0) y (:neg m) c y (:neg m) c, # 0)) tt i;
-              clears = pos 1;
-              leeway = ring own (λ s y m c. ((s :+ # 4 :* # 0) :* # 0, # 0)) tt i;
-            };
-        fourth =
-            record {
-              ahead = ring own (λ s y m c. (sideE Fourth (# 0) y m c y m c, # 0)) tt i;
-              behind = ring own (λ s y m c. (:neg (sideE Fourth (# 0) y (:neg m) c y (:neg m) c), # 0)) tt i;
-              clears = pos 1;
-              leeway = pos 0;
-            };
+        ahead = ring (own square) (λ s y m c. (sideE Third (# 0) y m c y m c, # 0)) tt i;
+        behind = ring (own square) (λ s y m c. (sideE Third (# 0) y (:neg m) c y (:neg m) c, # 0)) tt i;
+        clears = pos 1;
+        leeway = ring (own square) (λ s y m c. ((s :+ # 4 :* # 0) :* # 0, # 0)) tt i;
       }
+  span-none Fourth square = λ i.
+      record {
+        ahead = ring (own square) (λ s y m c. (sideE Fourth (# 0) y m c y m c, # 0)) tt i;
+        behind = ring (own square) (λ s y m c. (:neg (sideE Fourth (# 0) y (:neg m) c y (:neg m) c), # 0)) tt i;
+        clears = pos 1;
+        leeway = ring (own square) (λ s y m c. ((s :+ # 4 :* # 0) :* # 0, # 0)) tt i;
+      }
+
+  span-if-none : (asked : Bool) (o : Order) (square : ℤ) → span-if asked o square (pos 0) k k ≡ no-span
+  span-if-none true o square = span-none o square
+  span-if-none false o square = refl
+
+  pub spans-none : (asked : Bool) (square : ℤ) → spans asked square (pos 0) k k ≡ no-spans
+  unfolding spans
+  spans-none asked square = λ i. record { third = span-none Third square i; fourth = span-if-none asked Fourth (pos 20) i }
 
 -- ---- two gaps
 
@@ -77,6 +83,11 @@ meeting o {square} {q} {h} {before} {here} {after} t =
             mul-le-mul (leeway-size square q (t .square-in) (q-gap w)) (clears-most o (natAbs h) (gap-size (h-gap w))),
           );
     }
+
+pub meeting-if : (asked : Bool) (o : Order) {square q h : ℤ} {before here after : Knot} → Tried square q h before here after
+    → Meeting (span-if asked o square q before here) (span-if asked o square h here after)
+meeting-if true o t = meeting o t
+meeting-if false o t = record { jump = omega arith; leeways = omega arith }
 
 -- `meet` compares the numbers that `jump` and `allowance` give
 module _ (o : Order) (square q h : ℤ) (before here after : Knot) where

@@ -7,7 +7,7 @@ ghost use Rattle.curve.specs.Curve.{degree};
 ghost use Rattle.curve.specs.Jump.{clear};
 ghost use Rattle.gaps.specs.Limits.{Gap};
 ghost use Rattle.jumps.specs.Sides.{order-of, side, opposed, jump-of, leeways, past};
-ghost use Rattle.jumps.specs.Spans.{spans, no-spans, met-jump, met-leeways};
+ghost use Rattle.jumps.specs.Spans.{no-span, spans, no-spans, met-jump, met-leeways};
 ghost use Rattle.jumps.specs.Limits.{Held, Beside, Allowed, Meeting};
 
 // The derivatives whose jumps are tested at a knot.
@@ -107,6 +107,20 @@ pub struct Span {
     pub leeway: i64,
 }
 
+impl Span {
+    // Of no gap, or of a derivative that is not asked.
+    fn none() -> Span
+        ensures { λ r. ⌜ r ≡ no-span ⌝ }
+    {
+        Span {
+            ahead: 0,
+            behind: 0,
+            clears: 1,
+            leeway: 0,
+        }
+    }
+}
+
 // For both derivatives, with the gap's products worked out once.
 pub struct Spans {
     pub third: Span,
@@ -114,11 +128,12 @@ pub struct Spans {
 }
 
 impl Spans {
-    // From knot a to knot b; `square` is the first number of the third's allowance.
-    pub fn of(square: i64, h: i64, a: gaps::Knot, b: gaps::Knot) -> Spans
+    // From knot a to knot b, with the fourth where it is asked; `square` is the first number of the third's
+    // allowance.
+    pub fn of(asked: bool, square: i64, h: i64, a: gaps::Knot, b: gaps::Knot) -> Spans
         requires { ⌜ Held h a b ⌝ }
         requires { ⌜ natAbs square ≤ 2 ^ 8 ⌝ }
-        ensures { λ r. ⌜ r ≡ spans square h a b ⌝ }
+        ensures { λ r. ⌜ r ≡ spans asked square h a b ⌝ }
     {
         let y = a.ordinate;
         let m = a.slope;
@@ -135,18 +150,25 @@ impl Spans {
         let ahead = 20 * rise - (12 * s + 8 * s1) - (3 * v - v1);
         let behind = 12 * s1 + 8 * s - 20 * rise - (3 * v1 - v);
         let leeway = (square + 4 * h) * h;
+        let cube = cleared(Order::Third, h);
+        let third = Span {
+            ahead,
+            behind,
+            clears: cube,
+            leeway,
+        };
+        if !asked {
+            return Spans {
+                third,
+                fourth: Span::none(),
+            };
+        }
         let ahead4 = 16 * s + 14 * s1 + (3 * v - 2 * v1) - 30 * rise;
         let behind4 = 16 * s1 + 14 * s - (3 * v1 - 2 * v) - 30 * rise;
         let leeway4 = (20 + 4 * h) * h;
-        let cube = cleared(Order::Third, h);
         let fourth = cleared(Order::Fourth, h);
         Spans {
-            third: Span {
-                ahead,
-                behind,
-                clears: cube,
-                leeway,
-            },
+            third,
             fourth: Span {
                 ahead: ahead4,
                 behind: behind4,
@@ -160,12 +182,7 @@ impl Spans {
     pub fn none() -> Spans
         ensures { λ r. ⌜ r ≡ no-spans ⌝ }
     {
-        let span = Span {
-            ahead: 0,
-            behind: 0,
-            clears: 1,
-            leeway: 0,
-        };
+        let span = Span::none();
         Spans {
             third: span,
             fourth: span,

@@ -31,8 +31,8 @@ use Rattle.gaps.specs.declared.Knot.{Knot}
 use Rattle.jumps.specs.declared.Order.{Order}
 use Rattle.jumps.specs.declared.Order.the-variants.{Third, Fourth}
 use Rattle.jumps.specs.declared.Span.{Span}
-use Rattle.jumps.specs.Sides.{order-of, allowing}
-use Rattle.jumps.specs.Spans.{span}
+use Rattle.jumps.specs.Sides.{order-of, allowing, past}
+use Rattle.jumps.specs.Spans.{span, no-span, span-if, met-jump, met-leeways}
 use Rattle.jumps.specs.Limits.{Tried}
 use Rattle.gaps.specs.Limits.{In-gap, Keeps, limits}
 use Rattle.gaps.proofs.Kept.{keeps}
@@ -41,7 +41,7 @@ use Rattle.parts.proofs.OfKinds.{quintic-readable, lower, in-gap, tame}
 use Rattle.jumps.proofs.Gapwise.{compared-alike}
 use Rattle.jumps.proofs.JumpIs.{jumps-is}
 use Rattle.jumps.proofs.OfKinds.{quintic-testable, tried}
-use Rattle.lists.specs.Lists.{Checked, In-place, numbers-at, code-of, square-of, jumps-of}
+use Rattle.lists.specs.Lists.{Checked, In-place, numbers-at, code-of, square-of, tests, jumps-of}
 
 module _ {xs : List ℕ} {ys ms cs : List ℤ} (k : Checked xs ys ms cs) where
   stands-there : Stood quintic xs ys
@@ -151,14 +151,30 @@ module _ (kind : Kind) (o : Order) (left right : ℕ) (xs : List ℕ) (ys ms cs 
       go Third = refl
       go Fourth = refl
 
+  -- a derivative that the kind does not test is nowhere asked, whatever its gaps give
+  tested-alone : (code : ℕ) (before after : Span) → jumps-of kind o code (cond (tests kind o) before no-span) (cond (tests kind o) after no-span) ≡ jumps-of kind o code before after
+  tested-alone code before after = go o
+    where
+      asked : (tested there : Bool) → (tested && there) && past (met-jump (cond tested before no-span) (cond tested after no-span)) (met-leeways (cond tested before no-span) (cond tested after no-span))
+          ≡ (tested && there) && past (met-jump before after) (met-leeways before after)
+      asked true there = refl
+      asked false there = refl
+
+      go : (o : Order) → jumps-of kind o code (cond (tests kind o) before no-span) (cond (tests kind o) after no-span) ≡ jumps-of kind o code before after
+      go Third = refl
+      go Fourth = asked (kind .fourth) (quintic .asks (end code) (order-of Fourth))
+
   pub asked-jumps : {code : ℕ} {before after : Span} → code ≡ code-of left right (length xs) i
-      → before ≡ span o (pos (square-of kind o)) (pos (left-gap xs i)) (numbers-at ys ms cs (back i)) (numbers-at ys ms cs i)
-      → after ≡ span o (pos (square-of kind o)) (pos (right-gap xs i)) (numbers-at ys ms cs i) (numbers-at ys ms cs (min (i + 1) (length xs - 1)))
+      → before ≡ span-if (tests kind o) o (pos (square-of kind o)) (pos (left-gap xs i)) (numbers-at ys ms cs (back i)) (numbers-at ys ms cs i)
+      → after ≡ span-if (tests kind o) o (pos (square-of kind o)) (pos (right-gap xs i)) (numbers-at ys ms cs i) (numbers-at ys ms cs (min (i + 1) (length xs - 1)))
       → Checked xs ys ms cs → i < length xs → jumps-of kind o code before after ≡ jumps (kind-of kind) (joint card i) (order-of o)
   unfolding jumps joint knot knots gap on
   asked-jumps {before} {after} e f g k l =
       ap (λ code. jumps-of kind o code before after) e
       ∙ ap₂ (λ b a. jumps-of kind o (code-of left right (length xs) i) b a) f g
+      ∙ tested-alone (code-of left right (length xs) i)
+      (span o (pos (square-of kind o)) (pos (left-gap xs i)) (numbers-at ys ms cs (back i)) (numbers-at ys ms cs i))
+      (span o (pos (square-of kind o)) (pos (right-gap xs i)) (numbers-at ys ms cs i) (numbers-at ys ms cs (min (i + 1) (length xs - 1))))
       ∙ ap₂ _&&_ (sym asked-as)
       (compared-alike o (pos (square-of kind o)) (pos (left-gap xs i)) (pos (right-gap xs i)) (numbers-at ys ms cs (back i)) (numbers-at ys ms cs i) (numbers-at ys ms cs (min (i + 1) (length xs - 1)))
       ∙ jumps-is o (knot card (back i)) (knot card i) (knot card (on card i)) (level-right k i l) (level-left k i l) (kind-of kind) (square-of kind o) allows)

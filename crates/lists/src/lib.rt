@@ -68,7 +68,7 @@ fn asks(kind: knots::Kind, order: jumps::Order, code: u16) -> bool
 }
 
 // What the gap on the right of a knot gives to the tests at both of its knots; at the last knot there is
-// none.
+// none. The fourth's is left out where the kind does not ask for it.
 fn spans_at(
     kind: knots::Kind,
     xs: &[u16],
@@ -84,8 +84,9 @@ fn spans_at(
     let here = knot_at(ys, ms, cs, i);
     let after = knot_at(ys, ms, cs, minutes::on(xs.len(), i));
     let h = minutes::right_gap(xs, i) as i64;
+    let fourth = kind.fourth;
     let squares = kind.squares;
-    jumps::Spans::of(squares as i64, h, here, after)
+    jumps::Spans::of(fourth, squares as i64, h, here, after)
 }
 
 // Whether a derivative jumps at a knot between two gaps where its code asks for it.

@@ -1,6 +1,7 @@
 -- `spans_at` meets its contract.
 -- Assumes nothing.
 use mathlib.Core.Path.{_≡_, _∙_, ap}
+use mathlib.Core.Bool.{Bool}
 use Prim.Native.Nat.{ℕ, _+_, _-_, _≤_, _<_, _^_, min}
 use native.Mathlib.Nat.{le-of-lt}
 use native.Mathlib.Omega.{arith}
@@ -32,8 +33,8 @@ module _ {s h s′ h′ : ℤ} {a b a′ b′ : Knot} (e : Handed s h s′ h′ 
   asks-same : Held h′ a′ b′ → natAbs s′ ≤ 2 ^ 8 → (Held h a b) × (natAbs s ≤ 2 ^ 8)
   asks-same g w = rw (e .square-is, e .h-is, e .a-is, e .b-is) (g, w)
 
-  spans-same : spans s h a b ≡ spans s′ h′ a′ b′
-  spans-same = rw (e .square-is, e .h-is, e .a-is, e .b-is)
+  spans-same : (asked : Bool) → spans asked s h a b ≡ spans asked s′ h′ a′ b′
+  spans-same asked = rw (e .square-is, e .h-is, e .a-is, e .b-is)
 
 abbrev start : tie.After-right-gap → tie.Start
 start c = c .before .before .before .before .before
@@ -66,7 +67,7 @@ of-requires c κs =
     asks-same (handed c) (right-held (settled-knot (d .pre .0) (d .args .i) (d .pre .1) (square-of (d .args .kind) Third) low .beside)) low
 
 returns : tie.Need-returns
-returns c = (c .of .ensures ∙ spans-same (handed (c .before)), small (c .before))
+returns c = (c .of .ensures ∙ spans-same (handed (c .before)) (start (c .before) .args .kind .fourth), small (c .before))
 
 pub spans-at-spec : {M : Type 1} → statement M
 spans-at-spec =
