@@ -1,5 +1,5 @@
--- A straight line as a card of order 8's kind, byte by byte and both ways; with a code 1 in its head it is 15,
--- and with another kind 14. Computed from the definitions; assumes nothing.
+-- A straight line as a card of order 8's kind, byte by byte and both ways; with a code 1 in its head it is
+-- 15, and with another kind 14. Computed from the definitions; assumes nothing.
 use Prim.Native.Nat.{ℕ}
 use mathlib.Core.Path.{_≡_, refl}
 use mathlib.Core.List.{List, [], _∷_}

@@ -1,6 +1,5 @@
--- Document 01, "Numbers of refusal": 14 at a card's records, which kind of card a head opens, and the order of
--- a card's bytes.
--- Assumes nothing.
+-- Document 01, "Numbers of refusal": 14 at a card's records, which kind of card a head opens, and the order
+-- of a card's bytes. Assumes nothing.
 use Prim.Native.Nat.{ℕ}
 use mathlib.Core.Path.{_≡_}
 use mathlib.Core.Logic.{_⊎_}

@@ -1,5 +1,5 @@
--- What the lister prints, by what the reading of the card answers and leaves in four lists of as many places as
--- a card may have knots. Assumes nothing.
+-- What the lister prints, by what the reading of the card answers and leaves in four lists of as many places
+-- as a card may have knots. Assumes nothing.
 use Prim.Native.Nat.{ℕ, _≤_}
 use mathlib.Core.Path.{_≡_, refl, ap, _∙_}
 use mathlib.Core.List.{List, []}

@@ -1,5 +1,5 @@
--- No card within half a unit of an exact solution is refused with 10, for each kind whose allowance is enough; document 01's is, and order 8's.
--- Assumes nothing.
+-- No card within half a unit of an exact solution is refused with 10, for each kind whose allowance is
+-- enough; document 01's is, and order 8's. Assumes nothing.
 use mathlib.Core.Path.{_≡_, refl, subst}
 use mathlib.Core.Logic.{_≢_}
 use mathlib.Core.Bool.{Bool, true, false, not, _&&_, cond}

@@ -1,5 +1,6 @@
--- Document 01, "The curve and its card": the limits, "constants of the kind of card they belong to", and what each end's code asks; and document 02,
--- order 8, "Values with measured slopes": the second kind. Assumes nothing.
+-- Document 01, "The curve and its card": the limits, "constants of the kind of card they belong to", and what
+-- each end's code asks; and document 02, order 8, "Values with measured slopes": the second kind. Assumes
+-- nothing.
 use Prim.Native.Nat.{ℕ}
 use mathlib.Core.Bool.{Bool, true, false, _||_}
 use lib.IntN.{ℤ}

@@ -28,9 +28,10 @@ verdict K c =
     then codes K (c .left) (c .right)
     then sound K c
 
--- "Fit: 3, 1, 2, and 15 where ends come as code numbers; then per knot 4, 5, 6; then 7 left, right; 8 forward then back; 9; 10."
--- ms and Ms are the lengths of the lists lent for slopes and curvatures; `named` is 15, `numbers` is of those that come with the knots: 7 of the ends', or
--- 9 of the slopes (order 8: "9 for the given slopes before 8"); `passes` is 8; c is the card that the passes give.
+-- "Fit: 3, 1, 2, and 15 where ends come as code numbers; then per knot 4, 5, 6; then 7 left, right; 8 forward
+-- then back; 9; 10." ms and Ms are the lengths of the lists lent for slopes and curvatures; `named` is 15,
+-- `numbers` is of those that come with the knots: 7 of the ends', or 9 of the slopes (order 8: "9 for the
+-- given slopes before 8"); `passes` is 8; c is the card that the passes give.
 unfoldable pub fit-order : Kind → (ms Ms : ℕ) → (named numbers passes : Verdict) → Card → Verdict
 fit-order K ms Ms named numbers passes c =
     lengths (knots c) (length (c .ordinates)) ms Ms

@@ -326,8 +326,8 @@ pub record Off (s : List ℕ) : Type 0 where
   -- "third and fourth derivatives jump by no more than is allowed", as far as the card's kind asks for them
   pub jumps : (i : ℕ) → i + 2 < knots (card-of s) → (o : Order) → T (kind-by s .asks inner o) →
       Jump-within (kind-by s) o (knot (card-of s) i) (knot (card-of s) (i + 1)) (knot (card-of s) (i + 2))
-  -- where the slopes are given there is one exact solution, and "every stored curvature of an accepted card is
-  -- at most 2 card units from" it (document 02, order 8),
+  -- where the slopes are given there is one exact solution, and "every stored curvature of an accepted card
+  -- is at most 2 card units from" it (document 02, order 8),
   pub within-2 : kind-by s ≡ sloped → WithinTwo (card-of s)
   -- and the third derivative is within its allowance "at both ends too"
   pub flat-ends : kind-by s ≡ sloped → FlatEnds (card-of s)

@@ -1,5 +1,5 @@
-// The bytes of a card of any kind, record by record, at the front of a buffer that has room for them: document
-// 01, "Card bytes".
+// The bytes of a card of any kind, record by record, at the front of a buffer that has room for them:
+// document 01, "Card bytes".
 use knots::Kind;
 ghost use mathlib.Core.Path.{_≡_};
 ghost use Prim.Native.Nat.{_+_, _^_, _≤_, _<_};

@@ -100,8 +100,8 @@ pub extern "C" fn kaihveto_fit_ends(
     )
 }
 
-// The curvatures of the curve through the knots with these slopes, in card units: 3, 1, 2; per knot 4, 5, 6; 9
-// for the slopes; 8; 9; 10.
+// The curvatures of the curve through the knots with these slopes, in card units: 3, 1, 2; per knot 4, 5, 6;
+// 9 for the slopes; 8; 9; 10.
 #[no_mangle]
 pub extern "C" fn kaihveto_fit_slopes(
     minutes: &[u16],

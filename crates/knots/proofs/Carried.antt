@@ -1,5 +1,5 @@
--- The kinds that the code carries are the definitions' `quintic` and `sloped`, and every kind that it can carry has the same limits.
--- Assumes nothing.
+-- The kinds that the code carries are the definitions' `quintic` and `sloped`, and every kind that it can
+-- carry has the same limits. Assumes nothing.
 use mathlib.Core.Path.{_≡_, refl, ap, _∙_}
 use mathlib.Core.Bool.{Bool}
 use Prim.Native.Nat.{ℕ}

@@ -1,5 +1,5 @@
--- A kind of card as the code carries it, and the kind of the definitions that it stands for. Document 01, "The curve and its card", "The jump test";
--- document 02, order 8. Assumes nothing.
+-- A kind of card as the code carries it, and the kind of the definitions that it stands for. Document 01,
+-- "The curve and its card", "The jump test"; document 02, order 8. Assumes nothing.
 use Prim.Native.Nat.{ℕ}
 use mathlib.Core.Bool.{Bool, true, false, not, _&&_}
 use lib.IntN.{ℤ}

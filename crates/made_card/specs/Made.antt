@@ -1,6 +1,6 @@
--- The card that a sheet's text, with the logs that it names, is answered with: the fit of the sheet's knots, by
--- their slopes where they have them, or of the mended ones, in bytes that the card's test accepts.
--- Assumes nothing.
+-- The card that a sheet's text, with the logs that it names, is answered with: the fit of the sheet's knots,
+-- by their slopes where they have them, or of the mended ones, in bytes that the card's test accepts. Assumes
+-- nothing.
 use Prim.Native.Nat.{ℕ}
 use mathlib.Core.Path.{_≡_}
 use mathlib.Core.Bool.{Bool, true, false, cond}

@@ -1,5 +1,5 @@
--- A number has one spelling: a word that is read as a number, with a sign or without, or as an ordinate, is that number in decimal; and a hole is a minus alone.
--- Assumes nothing.
+-- A number has one spelling: a word that is read as a number, with a sign or without, or as an ordinate, is
+-- that number in decimal; and a hole is a minus alone. Assumes nothing.
 use Prim.Native.Nat.{ℕ, zero, suc, _+_, _-_, _*_, _/_, _%_, _^_, _≤_, _<_}
 use mathlib.Core.Path.{_≡_, refl, sym, ap, _∙_}
 use mathlib.Core.Bool.{Bool, true, false, cond, _&&_, _||_, true≢false}

@@ -1,6 +1,5 @@
--- Whole numbers in decimal: digits alone, none of them a zero in front, a minus before a slope or an ordinate below zero, or alone where there is a hole; and what is
--- wrong with another word.
--- Assumes nothing.
+-- Whole numbers in decimal: digits alone, none of them a zero in front, a minus before a slope or an ordinate
+-- below zero, or alone where there is a hole; and what is wrong with another word. Assumes nothing.
 use Prim.Native.Nat.{ℕ, zero, suc}
 use mathlib.Core.Bool.{Bool, false, cond, _&&_, _||_}
 use mathlib.Core.List.{List, [], _∷_}

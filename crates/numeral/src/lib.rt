@@ -1,5 +1,5 @@
-// A word as a whole number in decimal: a minute, an ordinate, a slope, a number among a program's arguments. Any
-// bytes are answered.
+// A word as a whole number in decimal: a minute, an ordinate, a slope, a number among a program's arguments.
+// Any bytes are answered.
 use split::Mark;
 ghost use mathlib.Core.Path.{_≡_};
 ghost use mathlib.Core.Bool.{true};

@@ -1,5 +1,5 @@
--- What bytes that were opened leave: the card that they hold wherever their records are in order, which can be
--- read where they are accepted, and one outcome. Assumes nothing.
+-- What bytes that were opened leave: the card that they hold wherever their records are in order, which can
+-- be read where they are accepted, and one outcome. Assumes nothing.
 use Prim.Native.Nat.{ℕ, _≤_}
 use mathlib.Core.Path.{_≡_, refl, sym, ap, subst, _∙_}
 use mathlib.Core.Bool.{Bool, true, false, cond}

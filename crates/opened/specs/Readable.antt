@@ -1,5 +1,5 @@
--- A decoded card that can be read, of whatever kind: it has knots enough, and 4, 5, 6 and 9 accept its numbers.
--- Assumes nothing.
+-- A decoded card that can be read, of whatever kind: it has knots enough, and 4, 5, 6 and 9 accept its
+-- numbers. Assumes nothing.
 use Prim.Native.Nat.{_≤_}
 use lib.ListN.{take}
 use Rattle.curve.specs.Kind.{quintic}

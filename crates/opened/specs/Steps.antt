@@ -1,6 +1,6 @@
--- The steps of the card's order in the pieces that the code takes, and what it has of a card's bytes once they
--- are opened. Document 01, "Numbers of refusal": "Card: head 14; 1, 2; 15; the other records 14; per knot 4, 5,
--- 6; 9; 10." Assumes nothing.
+-- The steps of the card's order in the pieces that the code takes, and what it has of a card's bytes once
+-- they are opened. Document 01, "Numbers of refusal": "Card: head 14; 1, 2; 15; the other records 14; per
+-- knot 4, 5, 6; 9; 10." Assumes nothing.
 use Prim.Native.Nat.{ℕ}
 use mathlib.Core.Path.{_≡_}
 use mathlib.Core.Bool.{cond}

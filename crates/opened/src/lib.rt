@@ -1,5 +1,6 @@
 // A card's bytes, opened: judged in the card's order as the kind of card that their head names, and decoded
-// once for whatever is done with them. Document 01, "Card bytes" and "Numbers of refusal"; document 02, order 8.
+// once for whatever is done with them. Document 01, "Card bytes" and "Numbers of refusal"; document 02, order
+// 8.
 use answer::Judged;
 use decode::Card;
 use knots::Kind;

@@ -1,6 +1,6 @@
--- What an answer of no changed numbers says: the card's slopes and curvatures are those of its fresh fit. And a
--- card as it is fitted with free ends, without ends, or by given slopes, is so answered; by given slopes only
--- curvatures are counted. Assumes nothing.
+-- What an answer of no changed numbers says: the card's slopes and curvatures are those of its fresh fit. And
+-- a card as it is fitted with free ends, without ends, or by given slopes, is so answered; by given slopes
+-- only curvatures are counted. Assumes nothing.
 use Prim.Native.Nat.{ℕ}
 use native.Mathlib.Omega.{arith}
 use mathlib.Core.Path.{_≡_, refl, sym, ap, _∙_}

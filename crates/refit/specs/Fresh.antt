@@ -1,6 +1,6 @@
 -- The fresh fit of a card: its own knots fitted anew, between ends of its own codes or by its own slopes, and
--- the order of its refusals. Document 01, "The curve and its card", "Numbers of refusal"; document 02, order 8.
--- Assumes nothing.
+-- the order of its refusals. Document 01, "The curve and its card", "Numbers of refusal"; document 02, order
+-- 8. Assumes nothing.
 use Prim.Native.Nat.{ℕ, _-_}
 use mathlib.Core.Bool.{cond}
 use mathlib.Core.List.{List}

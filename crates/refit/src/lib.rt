@@ -1,7 +1,7 @@
-// A card's own knots fitted anew, and how many of the card's slopes and curvatures are not that fit's: numbers
-// that were typed over on a card and still pass the jump test. Where the card's slopes were given, they are
-// given back, and its curvatures fitted anew from them. The order of the tests is that of the reader, "Card
-// into lent lists", and then the fit's own. Nothing is asked of the caller.
+// A card's own knots fitted anew, and how many of the card's slopes and curvatures are not that fit's:
+// numbers that were typed over on a card and still pass the jump test. Where the card's slopes were given,
+// they are given back, and its curvatures fitted anew from them. The order of the tests is that of the
+// reader, "Card into lent lists", and then the fit's own. Nothing is asked of the caller.
 use answer::Judged;
 use decode::Card;
 use knots::Kind;

@@ -166,8 +166,8 @@ fn write(
     }
 }
 
-// Knots that were fitted, or refused with this number at this place: what is said of them, and the card in its
-// form.
+// Knots that were fitted, or refused with this number at this place: what is said of them, and the card in
+// its form.
 fn told(
     form: Form,
     number: u32,
@@ -320,8 +320,8 @@ fn complain(text: &[u8], wrong: u32, line: u32, to: &mut [u8]) -> Answered
     }
 }
 
-// The knots of a sheet, with the logs that it names, and their fit: by the sheet's slopes, or between these ends
-// where it has none. The sheet is the text's.
+// The knots of a sheet, with the logs that it names, and their fit: by the sheet's slopes, or between these
+// ends where it has none. The sheet is the text's.
 pub fn answer(
     text: &[u8],
     sheet: Sheet,

@@ -84,7 +84,8 @@ log-blames = (refl, refl, refl, refl, refl)
 abbrev measured : List ℕ
 measured = written ("0 500 -819200" ∷ "8 @hour.log 230400" ∷ "" ∷ "16 500 0" ∷ [])
 
--- slopes on every line, a log's too; a hole, a knot without one, and one where the others have none are wrong, and so is every slope where the sheet is to be mended
+-- slopes on every line, a log's too; a hole, a knot without one, and one where the others have none are
+-- wrong, and so is every slope where the sheet is to be mended
 pub slopes :
     (sheet false measured .wrong ≡ 0) × (sheet false measured .knots ≡ 3) × (sheet false measured .sloped ≡ true) × (sheet false night .sloped ≡ false)
     × (take 4 (sheet false measured .slopes) ≡ negsuc 819199 ∷ pos 230400 ∷ pos 0 ∷ pos 0 ∷ []) × (take 4 (sheet false measured .logs) ≡ false ∷ true ∷ false ∷ false ∷ [])

@@ -1,5 +1,5 @@
--- A knot that is a log's stands on a line whose first words are its first minute and, behind a '@', the name that is told by that line's number.
--- Assumes nothing.
+-- A knot that is a log's stands on a line whose first words are its first minute and, behind a '@', the name
+-- that is told by that line's number. Assumes nothing.
 use Prim.Native.Nat.{ℕ, zero, suc, _<_}
 use mathlib.Core.Path.{_≡_, refl, sym, ap}
 use mathlib.Core.Logic.{_≢_, _⊎_, inl, inr, ⊎-elim}

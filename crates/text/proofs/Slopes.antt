@@ -1,5 +1,5 @@
--- What a knot with a slope, and one without, make of the sheet before them; and a line that is no knot takes no slope.
--- Assumes nothing.
+-- What a knot with a slope, and one without, make of the sheet before them; and a line that is no knot takes
+-- no slope. Assumes nothing.
 use Prim.Native.Nat.{ℕ}
 use mathlib.Core.Path.{_≡_, refl, sym, ap}
 use mathlib.Core.Bool.{Bool, true, false, cond}

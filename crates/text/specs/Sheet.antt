@@ -1,5 +1,6 @@
--- A sheet: its lines in order up to the first that is wrong, and no further than the 65th knot. A hole is wrong, unless the sheet is to be mended. A log stands for a knot by the name of its file.
--- A third number is the knot's slope in card units (document 02, order 8); all knots have one, or none has. Assumes nothing.
+-- A sheet: its lines in order up to the first that is wrong, and no further than the 65th knot. A hole is
+-- wrong, unless the sheet is to be mended. A log stands for a knot by the name of its file. A third number is
+-- the knot's slope in card units (document 02, order 8); all knots have one, or none has. Assumes nothing.
 use Prim.Native.Nat.{ℕ, zero, suc, _+_}
 use mathlib.Core.Bool.{Bool, true, false, not, cond, _&&_}
 use mathlib.Core.List.{List, [], _∷_}

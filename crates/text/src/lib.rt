@@ -1,6 +1,6 @@
-// A sheet as text: a line is a knot, its minute and its ordinate, or in place of the ordinate a hole, or '@' and
-// the name of a log's file; and behind these, on every line or on none, its slope in card units. Any bytes, of any
-// length, are answered.
+// A sheet as text: a line is a knot, its minute and its ordinate, or in place of the ordinate a hole, or '@'
+// and the name of a log's file; and behind these, on every line or on none, its slope in card units. Any
+// bytes, of any length, are answered.
 use numeral::Number;
 use numeral::Ordinate;
 use numeral::Signed;
@@ -204,8 +204,8 @@ pub fn log_name(text: &[u8], line: u32) -> &[u8]
 }
 
 // What is wrong and on which line, or 0 and 0; how many knots there are, whether they have slopes, and at the
-// front of five arrays their numbers, the line of each, and whether it is a log's: its minute is then the log's
-// first one, and its ordinate 0. A slope that is not there is 0.
+// front of five arrays their numbers, the line of each, and whether it is a log's: its minute is then the
+// log's first one, and its ordinate 0. A slope that is not there is 0.
 pub struct Sheet {
     pub wrong: u32,
     pub line: u32,

@@ -1,5 +1,5 @@
--- The writer's order in the pieces that the code takes, and what their acceptance leaves: lists of one length,
--- no longer than a card has knots, and room for its bytes. Assumes nothing.
+-- The writer's order in the pieces that the code takes, and what their acceptance leaves: lists of one
+-- length, no longer than a card has knots, and room for its bytes. Assumes nothing.
 use Prim.Native.Nat.{ℕ, _≤_}
 use mathlib.Core.Path.{_≡_, ap, _∙_}
 use native.Mathlib.Omega.{arith}

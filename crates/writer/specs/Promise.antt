@@ -1,5 +1,6 @@
 -- What the writer leaves its caller: number, place and how many bytes were written, and the lent buffer at
--- exit. Document 01, "Numbers of refusal": "Writer: 3, 1, 2, 15; per knot 4, 5, 6; 9; 10; 26." Assumes nothing.
+-- exit. Document 01, "Numbers of refusal": "Writer: 3, 1, 2, 15; per knot 4, 5, 6; 9; 10; 26." Assumes
+-- nothing.
 use Prim.Native.Nat.{ℕ}
 use mathlib.Core.Path.{_≡_}
 use mathlib.Core.List.{List}

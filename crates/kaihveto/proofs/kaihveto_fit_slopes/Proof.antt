@@ -1,4 +1,5 @@
--- `kaihveto::kaihveto_fit_slopes` meets its contract, which is that of the function it calls. Assumes nothing.
+-- `kaihveto::kaihveto_fit_slopes` meets its contract, which is that of the function it calls. Assumes
+-- nothing.
 use borrow.Author.Needs.{needs}
 use Rattle.kaihveto.proofs.kaihveto_fit_slopes.Statement.{statement}
 use Rattle.kaihveto.proofs.kaihveto_fit_slopes.Tie as tie

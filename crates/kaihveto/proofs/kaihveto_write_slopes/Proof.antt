@@ -1,4 +1,5 @@
--- `kaihveto::kaihveto_write_slopes` meets its contract, which is that of the function it calls. Assumes nothing.
+-- `kaihveto::kaihveto_write_slopes` meets its contract, which is that of the function it calls. Assumes
+-- nothing.
 use borrow.Author.Needs.{needs}
 use Rattle.kaihveto.specs.Types.{Minutes}
 use Rattle.kaihveto.proofs.kaihveto_write_slopes.Statement.{statement}

@@ -1,4 +1,5 @@
--- `workbench::swings::warn_gaps` is safe and ends: every gap of a card that can be read may be asked for. Assumes nothing.
+-- `workbench::swings::warn_gaps` is safe and ends: every gap of a card that can be read may be asked for.
+-- Assumes nothing.
 use Prim.Native.Nat.{_-_, _<_}
 use native.Mathlib.Omega.{arith}
 use borrow.Author.Needs.{needs}
