@@ -56,11 +56,11 @@
 
                            kaihveto.c   archive              kaihveto.c   archive
      kaihveto_mean                256       128   read, swing     5,120     4,096
-     write, write_slopes        1,024       512   reading         5,120     4,096
+     write, write_slopes        1,024     1,024   reading         5,120     4,096
      kaihveto_check             4,096     3,072   table           6,144     4,096
-     kaihveto_book_find         4,096     3,072   fit, fit_ends  10,240     8,192
-     kaihveto_book_put          4,096     3,072   refit, mend    13,312    10,240
-     kaihveto_fit_slopes            ?         ?
+     kaihveto_book_find         4,096     3,072   fit, fit_ends  13,312    13,312
+     kaihveto_book_put          4,096     3,072   fit_slopes     12,288    13,312
+                                                  refit, mend    16,384    15,360
 
    Time. A reading tests the whole card every time and only then looks up the minute: some 1 to 2 microseconds at 64 knots
    (docs/FIGURES.md, "Speed"). A controller that reads once a minute needs to keep nothing but the card's bytes. A table tests
