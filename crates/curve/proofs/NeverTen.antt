@@ -1,12 +1,12 @@
 -- No card within half a unit of an exact solution is refused with 10, for each kind whose allowance is
 -- enough; document 01's is, and order 8's. Assumes nothing.
-use mathlib.Core.Path.{_≡_, refl, subst}
+use mathlib.Core.Path.{_≡_, refl}
 use mathlib.Core.Logic.{_≢_}
 use mathlib.Core.Bool.{Bool, true, false, not, _&&_, cond}
 use Prim.Native.Nat.{ℕ, _+_, _*_, _≤_, _<_}
 use native.Mathlib.Omega.{arith}
 use lib.IntN.{ℤ, pos, natAbs, _+ℤ_, +ℤ-invr}
-use lib.Dec.{T, lit<, eqb, eqb-refl, T-not}
+use lib.Dec.{T, lit<}
 use lib.Signed.{leZ, _≤ℤ_}
 use Rattle.whole.proofs.Ring.{add-is, mul-is}
 use Rattle.whole.proofs.Order.{linear, abs-mul}
@@ -19,7 +19,7 @@ use Rattle.curve.specs.Card.{Card, Knot, knots, knot, back, on, gap, spo
 use Rattle.curve.specs.Jump.{inverse, clear, over, rise, jump, allowed, jumps}
 use Rattle.curve.specs.Steps.{lengths, counted, codes, stands, in-range, smooth}
 use Rattle.curve.specs.Orders.{numbers-sound, sound, verdict}
-use Rattle.answer.proofs.Never.{Never, never-number, never-then, never-each, never-refuse, given-never}
+use Rattle.answer.proofs.Never.{never-number, never-then, never-each, given-never, never-other as other}
 use Rattle.curve.specs.Exact.{Meets, Exact, Near, Half}
 use Rattle.curve.proofs.NearExact.{slack, near-jump, off}
 
@@ -126,6 +126,3 @@ never-10 K E card e near =
     (never-then (never-each 10 (stands K (card .minutes) (card .ordinates)) 0 (knots card) (λ j l. never-then (other 4 j _ tt) (never-then (other 5 j _ tt) (other 6 j _ tt))))
     (never-then (never-each 10 (in-range K card) 0 (knots card) (λ j l. other 9 j _ tt))
     (never-each 10 (smooth K card) 0 (knots card) (λ j l. rw (smooth-there K E card e near j (omega arith)) given-never)))))))
-  where
-    other : (n p : ℕ) (test : Bool) → T (not (eqb n 10)) → Never 10 (refuse n p test)
-    other n p test t = never-refuse 10 n p test (λ e. T-not (eqb n 10) t (subst (λ k. T (eqb n k)) e (eqb-refl n)))
