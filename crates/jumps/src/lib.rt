@@ -16,6 +16,9 @@ pub enum Order {
     Fourth,
 }
 
+// How many g3 the fourth's allowance has.
+pub const CUBES: i64 = 20;
+
 // A third of the third derivative at a knot, times h^3, or a twelfth of the fourth, times h^4, towards the neighbour on its right.
 fn side(order: Order, h: i64, here: gaps::Knot, next: gaps::Knot) -> i64
     requires { ⌜ Held h here next ⌝ }
@@ -165,7 +168,7 @@ impl Spans {
         }
         let ahead4 = 16 * s + 14 * s1 + (3 * v - 2 * v1) - 30 * rise;
         let behind4 = 16 * s1 + 14 * s - (3 * v1 - 2 * v) - 30 * rise;
-        let leeway4 = (20 + 4 * h) * h;
+        let leeway4 = (CUBES + 4 * h) * h;
         let fourth = cleared(Order::Fourth, h);
         Spans {
             third,
