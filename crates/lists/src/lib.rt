@@ -15,12 +15,12 @@ ghost use Rattle.knots.specs.Lent.{lent};
 ghost use Rattle.jumps.specs.Sides.{order-of};
 ghost use Rattle.jumps.specs.declared.Order.the-variants.{Third, Fourth};
 ghost use Rattle.jumps.specs.Limits.{Meeting};
-ghost use Rattle.lists.specs.Lists.{Long, Checked, In-place, numbers-at, code-of, square-of, spans-at, jumps-of, curve-of, spell-of, answered, answer-at};
+ghost use Rattle.lists.specs.Lists.{Long, Checked, In-place, numbers-at, code-of, square-of, spans-at, jumps-of, curve-of, spelt, spell-of, answered, answer-at};
 
 // ---- 10
 
 // A knot's numbers, as wide as the curve's arithmetic takes them.
-fn knot_at(ys: &[i16], ms: &[i32], cs: &[i32], i: usize) -> gaps::Knot
+pub fn knot_at(ys: &[i16], ms: &[i32], cs: &[i32], i: usize) -> gaps::Knot
     requires { ⌜ (i < length (now ys)) × (i < length (now ms)) × (i < length (now cs)) ⌝ }
     ensures { λ r. ⌜ r ≡ numbers-at (now (ys .entry)) (now (ms .entry)) (now (cs .entry)) i ⌝ }
 {
@@ -35,7 +35,7 @@ fn knot_at(ys: &[i16], ms: &[i32], cs: &[i32], i: usize) -> gaps::Knot
 }
 
 // The code by which a knot is tested. An inner knot is tested as a free end is.
-fn code_at(left: u16, right: u16, n: usize, i: usize) -> u16
+pub fn code_at(left: u16, right: u16, n: usize, i: usize) -> u16
     requires { ⌜ i < n ⌝ }
     ensures { λ r. ⌜ r ≡ code-of left right n i ⌝ }
 {
@@ -49,7 +49,7 @@ fn code_at(left: u16, right: u16, n: usize, i: usize) -> u16
 }
 
 // "At a free end both; with code 2 the fourth only; with code 1 nothing".
-fn asks(kind: knots::Kind, order: jumps::Order, code: u16) -> bool
+pub fn asks(kind: knots::Kind, order: jumps::Order, code: u16) -> bool
     ensures { λ r. ⌜ r ≡ kind-of kind .asks (end code) (order-of order) ⌝ }
 {
     let fourth = kind.fourth;
@@ -237,6 +237,34 @@ pub fn curve_at(xs: &[u16], ys: &[i16], ms: &[i32], cs: &[i32], i: usize) -> gap
     gap_curve::GapCurve::of((to - from) as i64, a, b)
 }
 
+// Where a minute falls: how wide its gap is, the minutes from the gap's left knot, and what both knots have.
+pub struct Spell {
+    pub h: i64,
+    pub t: i64,
+    pub from: gaps::Knot,
+    pub to: gaps::Knot,
+}
+
+// A minute of the gap from place i.
+pub fn spell_at(xs: &[u16], ys: &[i16], ms: &[i32], cs: &[i32], i: usize, minute: u16) -> Spell
+    requires { ⌜ Checked (now xs) (now ys) (now ms) (now cs) ⌝ }
+    requires { ⌜ In-place (now xs) i minute ⌝ }
+    ensures { λ r. ⌜ r ≡ spelt (now (xs .entry)) (now (ys .entry)) (now (ms .entry)) (now (cs .entry)) i minute ⌝ }
+{
+    let from = xs[i];
+    let to = xs[i + 1];
+    let h = (to - from) as i64;
+    let t = (minute - from) as i64;
+    let a = knot_at(ys, ms, cs, i);
+    let b = knot_at(ys, ms, cs, i + 1);
+    Spell {
+        h,
+        t,
+        from: a,
+        to: b,
+    }
+}
+
 // At a minute of the one gap that the looks have left.
 fn read_gap(
     xs: &[u16],
@@ -250,14 +278,10 @@ fn read_gap(
     requires { ⌜ In-place (now xs) (gap .first) minute ⌝ }
     ensures { λ r. ⌜ ((left right : ℕ) → r ≡ answered (gap .looks) (given (spell-of (lent (now (xs .entry)) (now (ys .entry)) (now (ms .entry)) (now (cs .entry)) left right) (gap .first) minute))) ⌝ }
 {
-    let i = gap.first;
-    let from = xs[i];
-    let to = xs[i + 1];
-    let h = (to - from) as i64;
-    let t = (minute - from) as i64;
-    let a = knot_at(ys, ms, cs, i);
-    let b = knot_at(ys, ms, cs, i + 1);
-    let r = reading::Reading::between(h, t, a, b);
+    let spell = spell_at(xs, ys, ms, cs, gap.first, minute);
+    let a = spell.from;
+    let b = spell.to;
+    let r = reading::Reading::between(spell.h, spell.t, a, b);
     CardReading {
         number: 0,
         place: 0,
