@@ -1,3 +1,4 @@
 pub mod Shape
+pub mod Jumping
 pub mod Fronts
 pub mod Opening

@@ -12,6 +12,7 @@ use Rattle.answer.proofs.Steps.{then-assoc, first-accepts, next-accepts, refuse
 use Rattle.bytes.specs.Numbers.{numAt}
 use Rattle.record.proofs.Records.{standing}
 use Rattle.curve.specs.Kind.{Kind, quintic}
+use Rattle.curve.specs.Card.{knots}
 use Rattle.curve.specs.Steps.{counted, codes}
 use Rattle.curve.specs.Orders.{sound, card-order}
 use Rattle.card_bytes.specs.Held.{start, count-at, card-of}
@@ -41,6 +42,11 @@ headed head s e = standing s 0 head 6 (due-stands s 0 head 6 e) .whole
 pub quintic-few : quintic .most-knots ≤ most
 unfolding quintic
 quintic-few = lit≤ tt
+
+pub shape-some : (K : Kind) (s : List ℕ) → shaped K s ≡ accepted → K .fewest-knots ≤ knots (card-of s)
+unfolding shaped behind-head limited counted
+shape-some K s e =
+    rw (knots-of s) (ltb-false (count-at s) (K .fewest-knots) (refuse-accepts 1 0 _ (first-accepts _ _ (first-accepts _ _ (first-accepts _ _ (next-accepts (head-due (K .head) s) _ e))))))
 
 module _ (K : Kind) (few : K .most-knots ≤ most) (s : List ℕ) where
   pub shape-room : shaped K s ≡ accepted → (count-at s ≤ most) × (start (count-at s) ≤ length s)
