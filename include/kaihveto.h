@@ -25,9 +25,11 @@
    may overlap one another. A pointer must be aligned for its type. A list of length 0 has no element to point to: pass any
    pointer that is aligned and not NULL, as the address of some variable of that type; nothing is read or written through it.
 
-   Answers. Every answer starts with a number and a place. Number 0 is acceptance, with place 0. Any other number is a
-   refusal: the fields behind number and place are then 0, and nothing has been written to any list. Knots and bytes count
-   from 0. Every input is allowed: what is not sound is refused, and a call always returns.
+   Answers. Every answer starts with a number and a place. Number 0 is acceptance, with place 0. Any other
+   number is a refusal: the fields behind number and place are then 0, and nothing has been written to any
+   list. There is one exception: beside a 10, kaihveto_explain has the reason for it in its last four fields.
+   Knots and bytes count from 0. Every input is allowed: what is not sound is refused, and a call always
+   returns.
 
    Calls. kaihveto.c is C like any other: its functions are called as the compiler calls functions. Those of the archive follow the
    System V calling convention for x86-64, which C and C++ compilers for Linux use.
@@ -54,19 +56,20 @@
    and Cortex-M4, and by clang on x86-64; tests/c/stack.c measures it on others. The first call may need more, where a loader binds
    memcpy and memset in it.
 
-                           kaihveto.c   archive              kaihveto.c   archive
-     kaihveto_mean                256       128   read, swing     5,120     4,096
-     write, write_slopes        1,024     1,024   reading         5,120     4,096
-     kaihveto_check             4,096     3,072   table           6,144     4,096
-     kaihveto_book_find         4,096     3,072   fit, fit_ends  13,312    13,312
-     kaihveto_book_put          4,096     3,072   fit_slopes     12,288    13,312
-                                                  refit, mend    16,384    15,360
+                           kaihveto.c   archive                 kaihveto.c   archive
+     kaihveto_mean                256       128   read, swing        5,120     4,096
+     write, write_slopes        1,024     1,024   reading, explain   5,120     4,096
+     kaihveto_check             4,096     3,072   table              6,144     4,096
+     kaihveto_book_find         4,096     3,072   fit, fit_ends     13,312    13,312
+     kaihveto_book_put          4,096     3,072   fit_slopes        12,288    13,312
+                                                  refit, mend       16,384    15,360
 
-   Time. A reading tests the whole card every time and only then looks up the minute: some 1 to 2 microseconds at 64 knots
-   (docs/FIGURES.md, "Speed"). A controller that reads once a minute needs to keep nothing but the card's bytes. A table tests
-   the card once and then reads minute after minute, and so does the swing, through the whole card. A
-   controller that keeps the hall's book instead finds its room's card with kaihveto_book_find, which goes over
-   the book's records and tests that one card, and hands book + start and length to kaihveto_reading. */
+   Time. A reading tests the whole card every time and only then looks up the minute, and so does an
+   explanation: some 1 to 2 microseconds at 64 knots (docs/FIGURES.md, "Speed"). A controller that reads once
+   a minute needs to keep nothing but the card's bytes. A table tests the card once and then reads minute
+   after minute, and so does the swing, through the whole card. A controller that keeps the hall's book
+   instead finds its room's card with kaihveto_book_find, which goes over the book's records and tests that
+   one card, and hands book + start and length to kaihveto_reading. */
 
 #ifndef KAIHVETO_H
 #define KAIHVETO_H
@@ -83,6 +86,8 @@ extern "C" {
    input gets another answer. MINOR rises where something is added and all else stays. kaihveto_version() gives the library's own
    version, 65536 times MAJOR plus MINOR: where it is not KAIHVETO_VERSION, the library and this header are of two states of the
    sources, and no other function is to be called.
+
+   6.1: kaihveto_explain is added.
 
    6.0: there is a second kind of card, of which the slopes are given, and kaihveto_fit_slopes and
    kaihveto_write_slopes are added for it. The answer of kaihveto_check and of kaihveto_read has the kind,
@@ -116,7 +121,7 @@ extern "C" {
    2.0: kaihveto_mean answers the minute in the log's middle, where 1.2 answered the log's first, and has the refusal 19. Cards
    that were made with the first minutes lead the rooms by half a log, and are to be made anew. */
 #define KAIHVETO_VERSION_MAJOR 6
-#define KAIHVETO_VERSION_MINOR 0
+#define KAIHVETO_VERSION_MINOR 1
 #define KAIHVETO_VERSION (65536u * KAIHVETO_VERSION_MAJOR + KAIHVETO_VERSION_MINOR)
 
 uint32_t kaihveto_version(void);
@@ -334,6 +339,48 @@ kaihveto_table_answer kaihveto_table(const uint8_t *card, size_t card_length, ui
                                      int32_t *values, size_t values_length,
                                      int32_t *slopes, size_t slopes_length,
                                      int32_t *curvatures, size_t curvatures_length);
+
+/* Why a card reads what it reads at a minute, or why it is refused with 10.
+
+   The exact value of the curve at a minute is a fraction, and its numerator is a sum of six parts: one each
+   for the ordinate, the slope and the curvature of the left and of the right knot of the minute's gap. On
+   acceptance the answer has the gap, as the place of its left knot; how many minutes the minute lies behind
+   that knot; the six parts, whole numbers with their signs; and the denominator under all of them, which is
+   8192 times the fifth power of the gap's minutes. Each part over the denominator is what its number of its
+   knot brings to the value, in hundredths. The six add up to the numerator, within 64 bits in whatever order,
+   and the numerator over the denominator, rounded to nearest, ties to even, is the value that
+   kaihveto_reading gives. The minute of an inner knot belongs to the gap on the knot's right, that of the
+   last knot to the last gap. knot, order, jump and allowance are 0.
+
+   Beside a 10, and beside no other refusal, these four have its reason, and the fields before them are 0 but
+   for number and place. knot is the place again. order is the derivative that jumps there by more than is
+   allowed, 3 or 4, and 3 where both of them do. jump is the size of that jump, without a sign, and allowance
+   what it may be; jump is the larger. Both are numerators over one denominator, which is not in the answer:
+   with order 3 the cube of the gap on the knot's left times that of the gap on its right, with order 4 their
+   fourth powers instead, and at the first and at the last knot the cube or the fourth power of the one gap
+   that is there. The jump is between the right side and the left of a third of the third derivative, or of a
+   twelfth of the fourth, in card units, an end's one side being held against 0; and the allowance is that of
+   both sides together, or of the one. Of a card whose slopes are given, order is always 3.
+   Refusals, in this order: those of kaihveto_check, 11. Nothing is written. */
+typedef struct {
+    uint32_t number;
+    uint32_t place;
+    uint32_t gap;
+    uint32_t minutes;
+    int64_t left_ordinate;
+    int64_t right_ordinate;
+    int64_t left_slope;
+    int64_t right_slope;
+    int64_t left_curvature;
+    int64_t right_curvature;
+    int64_t denominator;
+    uint32_t knot;
+    uint32_t order;
+    int64_t jump;
+    int64_t allowance;
+} kaihveto_explain_answer;
+
+kaihveto_explain_answer kaihveto_explain(const uint8_t *card, size_t card_length, uint16_t minute);
 
 /* How far a card's curve swings beyond its knots. In a gap, between two neighbouring knots, the curve may go
    below the lower of their two ordinates and above the higher one. A gap's two numbers say how far it does,

@@ -17,6 +17,7 @@ ghost use Rattle.card.specs.Answers.{own, checked, read-off};
 ghost use Rattle.card.specs.Promise.{lists, Reads};
 ghost use Rattle.table.specs.Promise.{columns, Tables};
 ghost use Rattle.swing.specs.Swing.{swung};
+ghost use Rattle.explain.specs.Explain.{explain};
 ghost use Rattle.writer.specs.Promise.{Writes};
 ghost use Rattle.refit.specs.Promise.{Refits};
 ghost use Rattle.holes.specs.Hole.{mended};
@@ -31,12 +32,12 @@ ghost use Rattle.kaihveto.specs.Version.{version};
 // The boundary's version, as include/kaihveto.h names it.
 const MAJOR: u32 = 6;
 
-const MINOR: u32 = 0;
+const MINOR: u32 = 1;
 
 // The version in one number, so that a program can see that the library and the header which it was compiled with belong together.
 #[no_mangle]
 pub extern "C" fn kaihveto_version() -> u32
-    ensures { λ r. ⌜ r ≡ version 6 0 ⌝ }
+    ensures { λ r. ⌜ r ≡ version 6 1 ⌝ }
 {
     65536 * MAJOR + MINOR
 }
@@ -213,6 +214,14 @@ pub extern "C" fn kaihveto_swing(card: &[u8]) -> swing::Swung
     ensures { λ r. ⌜ r ≡ swung (own (now (card .entry))) (card-of (now (card .entry))) ⌝ }
 {
     swing::swing(card)
+}
+
+// What a reading is made of, and the jump that a card is refused for with 10: the card's, then 11.
+#[no_mangle]
+pub extern "C" fn kaihveto_explain(card: &[u8], minute: u16) -> explain::Explained
+    ensures { λ r. ⌜ r ≡ explain (now (card .entry)) minute ⌝ }
+{
+    explain::explain(card, minute)
 }
 
 // The slopes and curvatures of a card's own knots fitted anew, at the front of two lists, and how many of the card's are others: 3, the card's, 26; 8; 9; 10.

@@ -5,11 +5,23 @@ use crate::term::fail;
 use crate::types::{c_name, Shape, Ty, Types};
 use std::fmt::Write;
 
-/// A function as a header declares it: result, name, and parameters as written.
+/// A function as a header declares it: result, name, and parameters as written; and where the result is a
+/// struct of the header's, its fields.
 pub struct Prototype {
     pub result: String,
     pub name: String,
     params: String,
+    fields: Vec<String>,
+}
+
+/// The fields of a struct, by their names.
+fn fields_of(code: &str, name: &str) -> Vec<String> {
+    let body = |defined: &str| {
+        let (fields, rest) = defined.split_once('}')?;
+        let named = rest.split(';').next()?.trim() == name;
+        named.then(|| fields.split(';').filter_map(|field| field.split_whitespace().last().map(String::from)).collect())
+    };
+    code.split("typedef struct {").find_map(body).unwrap_or_default()
 }
 
 pub fn prototypes(header: &str) -> Vec<Prototype> {
@@ -24,13 +36,30 @@ pub fn prototypes(header: &str) -> Vec<Prototype> {
         let (head, params) = declared.trim().split_once('(')?;
         let (result, name) = head.rsplit(['}', '{']).next()?.trim().rsplit_once(' ')?;
         let params = params.trim().trim_end_matches(')').split_whitespace().collect::<Vec<_>>().join(" ");
-        Some(Prototype { result: result.trim().to_string(), name: name.to_string(), params })
+        let (result, fields) = (result.trim().to_string(), fields_of(&lines, result.trim()));
+        Some(Prototype { result, name: name.to_string(), params, fields })
     };
     lines.split(';').filter_map(one).collect()
 }
 
+/// That the header's struct has the answer's fields, each of its width and in its place.
+fn laid_alike(types: &Types, answer: &str, widths: usize, p: &Prototype) -> String {
+    if p.fields.len() != widths {
+        fail::<()>("an answer with as many fields as the header's", &p.name)
+    }
+    let (given, name) = (c_name(answer), &p.name);
+    let one = |(k, field): (usize, &String)| {
+        let own = types.field(answer, k);
+        format!(
+            "    _Static_assert(offsetof({}, {field}) == offsetof({given}, {own}) && sizeof answer.{field} == sizeof given.{own}, \"{name}'s {field}\");\n",
+            p.result
+        )
+    };
+    p.fields.iter().enumerate().map(one).collect()
+}
+
 /// A function under its name in the header: a list comes as a pointer and a length, and the answer goes as
-/// the header's struct, whose size is asserted.
+/// the header's struct, whose size is asserted, and where its fields have two widths, each field's place.
 pub fn exported(types: &Types, symbol: &str, f: &Function, p: &Prototype) -> String {
     let named: Vec<&str> = match p.params.as_str() {
         "void" => vec![],
@@ -59,12 +88,20 @@ pub fn exported(types: &Types, symbol: &str, f: &Function, p: &Prototype) -> Str
     let head = format!("{} {name}({})\n{{\n{sizes}", p.result, p.params);
     match &f.locals[0] {
         Ty::Int(32) if p.result == "uint32_t" => format!("{head}    return {call};\n}}\n\n"),
-        Ty::Named(answer) if matches!(types.shape(answer), Shape::Fields(all) if all.iter().all(|f| *f == Ty::Int(32))) => format!(
-            "{head}    {} given = {call};\n    {} answer;\n    _Static_assert(sizeof answer == sizeof given, \"{name}'s answer\");\n    memcpy(&answer, &given, sizeof answer);\n    return answer;\n}}\n\n",
-            c_name(answer),
-            p.result
-        ),
-        _ => fail("an answer that is not all of 32 bits", name),
+        Ty::Named(answer) => {
+            let fields = match types.shape(answer) {
+                Shape::Fields(all) if all.iter().all(|f| matches!(f, Ty::Int(32 | 64))) => all,
+                _ => fail("an answer that is not all of 32 or 64 bits", name),
+            };
+            let one_width = fields.iter().all(|f| *f == Ty::Int(32));
+            let places = if one_width { String::new() } else { laid_alike(types, answer, fields.len(), p) };
+            format!(
+                "{head}    {} given = {call};\n    {} answer;\n    _Static_assert(sizeof answer == sizeof given, \"{name}'s answer\");\n{places}    memcpy(&answer, &given, sizeof answer);\n    return answer;\n}}\n\n",
+                c_name(answer),
+                p.result
+            )
+        }
+        _ => fail("an answer that is no number and no struct", name),
     }
 }
 
