@@ -51,6 +51,7 @@ fn same_card(library: &Library, bytes: &[u8]) {
     };
     for minute in minutes {
         same(library, &("reading", minute, bytes), |by| by.reading(bytes, minute));
+        same(library, &("explain", minute, bytes), |by| by.explain(bytes, minute));
     }
 }
 
@@ -155,6 +156,7 @@ pub fn compare(library: &Library, inputs: &Inputs) {
     cards(library, &inputs.hours, random);
     cards(library, &inputs.mixed, random);
     cards(library, &inputs.sloped, random);
+    cards(library, &inputs.jumping, random);
     let specials = curves::given_numbers();
     for n in 0..=KNOTS + 2 {
         for turn in 0..60 {

@@ -1,5 +1,5 @@
 //! What is timed: cards of 64 knots on gaps of an hour and on gaps of 20 to 60 minutes, the latter with given
-//! slopes too, logs, sheets with holes, and books of fourteen rooms.
+//! slopes and with a jump too, logs, sheets with holes, and books of fourteen rooms.
 
 use independent::curves::{self, Numbers, Sheet};
 use independent::random::Random;
@@ -23,6 +23,7 @@ pub struct Inputs {
     pub hours: Cards,
     pub mixed: Cards,
     pub sloped: Cards,
+    pub jumping: Cards,
     pub logs: Vec<Vec<u8>>,
     pub sheets: Vec<Sheet>,
     pub books: Vec<Vec<u8>>,
@@ -47,6 +48,14 @@ fn card(random: &mut Random, gap: impl Fn(&mut Random) -> u16) -> Numbers {
 fn with_slopes(random: &mut Random, card: &Numbers) -> Numbers {
     let slopes = card.slopes.iter().map(|slope| slope + random.within(-400, 400) as i32).collect();
     curves::sloped(card.sheet.clone(), slopes).expect("slopes near a fit's are fitted to")
+}
+
+/// The same card with its last curvature so far off that it is refused for it.
+fn with_a_jump(card: &Numbers) -> Numbers {
+    let (_, past) = curves::about_the_allowance(card, KNOTS - 1, false, 1);
+    let place = KNOTS as u32 - 1;
+    assert_eq!(reference::check(&past.bytes()).err(), Some(reference::Refusal { number: 10, place }));
+    past
 }
 
 fn cards(random: &mut Random, gap: impl Fn(&mut Random) -> u16) -> Cards {
@@ -101,5 +110,6 @@ pub fn inputs(random: &mut Random) -> Inputs {
     let short_card = curves::fitted(random, 3, 0, 0).bytes();
     let given = mixed.numbers.iter().map(|card| with_slopes(random, card)).collect();
     let sloped = cards_of(random, given);
-    Inputs { hours, mixed, sloped, logs, sheets, books, short_card }
+    let jumping = cards_of(random, mixed.numbers.iter().map(with_a_jump).collect());
+    Inputs { hours, mixed, sloped, jumping, logs, sheets, books, short_card }
 }

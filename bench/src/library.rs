@@ -3,7 +3,9 @@
 //! ask (`Functions`), and the library as one C compiler has made it, each function wrapped so that safe Rust can call it:
 //! a slice passes as its pointer and then its length, an answer comes back by value.
 
-pub use independent::boundary::{Change, Checked, End, Fitted, Mean, Reading, Refitted, Spot, Swing, Tabled as Counted, Written};
+pub use independent::boundary::{
+    Change, Checked, End, Explained, Fitted, Mean, Reading, Refitted, Spot, Swing, Tabled as Counted, Written,
+};
 
 /// Minutes and ordinates.
 pub type Knots<'a> = (&'a [u16], &'a [i16]);
@@ -20,6 +22,7 @@ pub trait Functions {
     fn read(&self, card: &[u8], minutes: &mut [u16], ordinates: &mut [i16], slopes: &mut [i32], curvatures: &mut [i32]) -> Checked;
     fn reading(&self, card: &[u8], minute: u16) -> Reading;
     fn table(&self, card: &[u8], from: u16, values: &mut [i32], slopes: &mut [i32], curvatures: &mut [i32]) -> Counted;
+    fn explain(&self, card: &[u8], minute: u16) -> Explained;
     fn swing(&self, card: &[u8]) -> Swing;
     fn refit(&self, card: &[u8], slopes: &mut [i32], curvatures: &mut [i32]) -> Refitted;
     fn mend(&self, minutes: &[u16], ordinates: &mut [i16], slopes: &mut [i32], curvatures: &mut [i32], changes: &mut [Change]) -> Counted;
@@ -69,6 +72,7 @@ pub struct Library {
     read: unsafe extern "C" fn(*const u8, usize, *mut u16, usize, *mut i16, usize, *mut i32, usize, *mut i32, usize) -> Checked,
     reading: unsafe extern "C" fn(*const u8, usize, u16) -> Reading,
     table: unsafe extern "C" fn(*const u8, usize, u16, *mut i32, usize, *mut i32, usize, *mut i32, usize) -> Counted,
+    explain: unsafe extern "C" fn(*const u8, usize, u16) -> Explained,
     swing: unsafe extern "C" fn(*const u8, usize) -> Swing,
     refit: unsafe extern "C" fn(*const u8, usize, *mut i32, usize, *mut i32, usize) -> Refitted,
     mend: unsafe extern "C" fn(*const u16, usize, *mut i16, usize, *mut i32, usize, *mut i32, usize, *mut Change, usize) -> Counted,
@@ -208,6 +212,10 @@ impl Functions for Library {
                 curvatures.len(),
             )
         }
+    }
+
+    fn explain(&self, card: &[u8], minute: u16) -> Explained {
+        unsafe { (self.explain)(card.as_ptr(), card.len(), minute) }
     }
 
     fn swing(&self, card: &[u8]) -> Swing {

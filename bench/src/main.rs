@@ -235,6 +235,13 @@ fn main() {
     for (name, cards) in [("a minute of a table, gaps of 60", hours), ("a minute of a table, gaps of 20 to 60", cards)] {
         bench.line(name, mean_count(cards), INPUTS, |by| table_of(by, cards));
     }
+    for (name, cards) in [("explanation off 64 knots", cards), ("explanation of a jump at the last of 64", &inputs.jumping)] {
+        bench.line(name, 1.0, INPUTS, |by| {
+            Box::new(|i| {
+                black_box(by.explain(black_box(&cards.bytes[i]), black_box(cards.minutes[i])));
+            })
+        });
+    }
     for (name, cards) in [("a minute of a swing, gaps of 60", hours), ("a minute of a swing, gaps of 20 to 60", cards)] {
         bench.line(name, mean_count(cards), INPUTS, |by| {
             Box::new(|i| {

@@ -42,14 +42,15 @@ static void to_numbers(uint8_t *at, size_t bytes, size_t width) {
     }
 }
 
-/* And back. */
+/* And back; an answer may have numbers of 8 bytes too. */
 static void to_bytes(uint8_t *at, size_t bytes, size_t width) {
     for (const uint8_t *end = at + bytes; width > 1 && at < end; at += width) {
+        uint64_t widest = 0;
         uint32_t wide = 0;
         uint16_t narrow = 0;
-        memcpy(width == 2 ? (void *)&narrow : (void *)&wide, at, width);
+        memcpy(width == 2 ? (void *)&narrow : width == 4 ? (void *)&wide : (void *)&widest, at, width);
         for (size_t i = 0; i < width; i++)
-            at[i] = (uint8_t)((narrow | wide) >> (8 * i));
+            at[i] = (uint8_t)((narrow | wide | widest) >> (8 * i));
     }
 }
 
@@ -102,10 +103,24 @@ static void give_back(struct list l) {
     give(l.first, l.bytes);
 }
 
-/* Every answer is a struct of numbers of 4 bytes. */
+/* Every answer but one is a struct of numbers of 4 bytes. */
 static void give_answer(void *answer, size_t bytes) {
     to_bytes(answer, bytes, 4);
     give(answer, bytes);
+}
+
+/* An explanation has numbers of 4 bytes and of 8, of which none needs a byte to fill up before it. */
+static void give_explanation(kaihveto_explain_answer *answer) {
+    uint8_t *first = (uint8_t *)answer;
+    size_t parts = offsetof(kaihveto_explain_answer, left_ordinate), knot = offsetof(kaihveto_explain_answer, knot);
+    size_t jump = offsetof(kaihveto_explain_answer, jump), bytes = sizeof *answer;
+    if (parts != 16 || knot != 72 || jump != 80 || bytes != 96)
+        exit(1);
+    to_bytes(first, parts, 4);
+    to_bytes(first + parts, knot - parts, 8);
+    to_bytes(first + knot, jump - knot, 4);
+    to_bytes(first + jump, bytes - jump, 8);
+    give(first, bytes);
 }
 
 int main(void) {
@@ -203,6 +218,14 @@ int main(void) {
             give_answer(&r, sizeof r);
             give_back(a), give_back(b), give_back(c);
             drop(a), drop(b), drop(c), drop(e);
+            break;
+        }
+        case 'y': {
+            a = list(1);
+            uint64_t minute = number();
+            kaihveto_explain_answer r = kaihveto_explain(a.first, a.length, (uint16_t)minute);
+            give_explanation(&r);
+            drop(a);
             break;
         }
         case 's': {

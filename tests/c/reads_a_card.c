@@ -1,7 +1,8 @@
 /* Sees that library and header belong together. Fits document 01's Table 3 through the C header, without ends
    and then between free ones, and writes its card each time, with the swing of both; checks the free one,
-   reads it back and takes readings off it; then fits document 000's Table 4 to its slopes and writes, checks,
-   reads and changes that card; then a log's mean and a log with too few good bytes, a sheet with two holes
+   reads it back, takes readings off it and explains one, and explains why the card is refused that has one
+   curvature three units off; then fits document 000's Table 4 to its slopes and writes, checks, reads and
+   changes that card; then a log's mean and a log with too few good bytes, a sheet with two holes
    mended and put back, and a book of three rooms with readings off the cards that it holds for two of them.
    What it prints is held against reads_a_card.expected. */
 
@@ -15,6 +16,16 @@ static void print_swing(const char *name, kaihveto_swing_answer swing)
 {
     printf("%s: %u at %u, knot %u, minute %u, below %u, above %u\n", name, swing.number, swing.place, swing.knot,
            swing.minute, swing.below, swing.above);
+}
+
+static void print_explained(const char *name, kaihveto_explain_answer told)
+{
+    printf("%s: %u at %u, minute %u of gap %u, ordinates %lld %lld, slopes %lld %lld, curvatures %lld %lld, over %lld; ",
+           name, told.number, told.place, told.minutes, told.gap, (long long)told.left_ordinate,
+           (long long)told.right_ordinate, (long long)told.left_slope, (long long)told.right_slope,
+           (long long)told.left_curvature, (long long)told.right_curvature, (long long)told.denominator);
+    printf("knot %u, order %u, jump %lld, allowance %lld\n", told.knot, told.order, (long long)told.jump,
+           (long long)told.allowance);
 }
 
 static void print_card(const char *name, kaihveto_card_answer card)
@@ -82,6 +93,14 @@ int main(void)
     reading = kaihveto_reading(card, sizeof card, 33);
     printf("minute 33: %u at %u, value %d, slope %d, curvature %d, looks %u\n", reading.number, reading.place, reading.value,
            reading.slope, reading.curvature, reading.looks);
+
+    print_explained("minute 4 explained", kaihveto_explain(card, sizeof card, 4));
+    print_explained("minute 33 explained", kaihveto_explain(card, sizeof card, 33));
+    /* The low byte of the curvature at place 2, which is 0 in -108800. */
+    const size_t low_byte = KAIHVETO_CARD_BYTES(2) + 8;
+    card[low_byte] = 3;
+    print_explained("curvature -108797 at place 2 explained", kaihveto_explain(card, sizeof card, 4));
+    card[low_byte] = 0;
 
     print_swing("swing", kaihveto_swing(card, sizeof card));
     print_swing("swing a byte short", kaihveto_swing(card, sizeof card - 1));

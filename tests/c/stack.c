@@ -55,6 +55,16 @@ static uint32_t table(void) {
     return r.count == MINUTES ? r.number : 1;
 }
 
+/* A minute; and the reason why the card is refused where a curvature near its end is another. */
+static uint32_t explain(void) {
+    uint8_t *low = card + KAIHVETO_CARD_BYTES(KNOTS) - 24;
+    kaihveto_explain_answer r = kaihveto_explain(card, sizeof card, 333);
+    *low ^= 128;
+    kaihveto_explain_answer refused = kaihveto_explain(card, sizeof card, 333);
+    *low ^= 128;
+    return refused.number == KAIHVETO_JUMP && refused.jump > refused.allowance ? r.number : 1;
+}
+
 static uint32_t swing(void) {
     kaihveto_swing_answer r = kaihveto_swing(card, sizeof card);
     return r.below != 0 || r.above != 0 ? r.number : 1;
@@ -121,6 +131,7 @@ int main(void) {
     good &= line("read", read_card);
     good &= line("reading", reading);
     good &= line("table", table);
+    good &= line("explain", explain);
     good &= line("swing", swing);
     good &= line("refit", refit);
     good &= line("mend", mend);

@@ -6,7 +6,7 @@ BEGIN {
     for (i in names) known[names[i]] = 1
     for (i = 1; i < 256; i++) character[sprintf("%c", i)] = i
     printed = 0; mean = 1; reading = 2; check = 3; swing = 4; fit = 5; fit_codes = 6; write = 7; read = 8; mend = 9
-    fit_slopes = 10; write_slopes = 11
+    fit_slopes = 10; write_slopes = 11; explain = 12
 }
 
 function fail(words) {
@@ -188,6 +188,7 @@ function ask(word,    x, y, m, c) {
     if (word == "mean") bytes_record(mean, number("minute", 0), all_of("log"))
     else if (word == "reading") bytes_record(reading, number("minute", 0), card())
     else if (word == "check") bytes_record(check, 0, card())
+    else if (word == "explain") bytes_record(explain, number("minute", 0), card())
     else if (word == "swing") bytes_record(swing, 0, card())
     else if (word == "fit" && !given["ends"]) ended_record(fit, lent("minutes", x, 2) lent("ordinates", y, 2) sevens(m, 4) sevens(c, 4))
     else if (word == "fit")

@@ -30,6 +30,24 @@ fn swing(card: &[u8]) {
     print::counted(b"; above", swung.above);
 }
 
+fn explain(minute: u16, card: &[u8]) {
+    let explained = explain::explain(card, minute);
+    print::verdict(b"explain", explained.number, explained.place);
+    print::counted(b"; gap", explained.gap);
+    print::counted(b"; minutes", explained.minutes);
+    print::wide(b"; parts", explained.ordinate);
+    print::wide(b"", explained.ordinate1);
+    print::wide(b"", explained.slope);
+    print::wide(b"", explained.slope1);
+    print::wide(b"", explained.curvature);
+    print::wide(b"", explained.curvature1);
+    print::wide(b"; denominator", explained.denominator);
+    print::counted(b"; knot", explained.knot);
+    print::counted(b"; order", explained.order);
+    print::wide(b"; jump", explained.jump);
+    print::wide(b"; allowance", explained.allowance);
+}
+
 fn checked(word: &[u8], checked: card::Checked) {
     print::verdict(word, checked.number, checked.place);
     print::counted(b"; knots", checked.knots);
@@ -163,6 +181,11 @@ fn mend(
     print::numbers(b"; curvatures", curvatures);
 }
 
+// Whether a record of a kind asks about bytes.
+pub(crate) fn about_bytes(kind: u16) -> bool {
+    kind < 5 || kind == 12
+}
+
 // The questions about bytes, by the kind of the record; kind 0 is a text to print.
 pub(crate) fn of_bytes(kind: u16, minute: u16, list: &[u8]) {
     match kind {
@@ -170,6 +193,7 @@ pub(crate) fn of_bytes(kind: u16, minute: u16, list: &[u8]) {
         2 => reading(minute, list),
         3 => check(list),
         4 => swing(list),
+        12 => explain(minute, list),
         _ => {
             io::write_all(1, list);
         }

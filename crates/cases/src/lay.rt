@@ -73,7 +73,7 @@ pub(crate) fn question(kind: u16, body: &mut [u8]) {
         return;
     }
     let left = bytes::read_u16(body, 8);
-    if kind < 5 {
+    if ask::about_bytes(kind) {
         ask::of_bytes(kind, left, &body[12..]);
         return;
     }

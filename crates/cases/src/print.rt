@@ -7,14 +7,18 @@ pub(crate) fn counted(word: &[u8], number: u32) {
     io::print_decimal(1, number as u64);
 }
 
-pub(crate) fn named(word: &[u8], number: i32) {
+pub(crate) fn wide(word: &[u8], number: i64) {
     io::write_all(1, word);
     if number < 0 {
         io::write_all(1, b" -");
     } else {
         io::write_all(1, b" ");
     }
-    io::print_decimal(1, decimal::magnitude(number as i64));
+    io::print_decimal(1, decimal::magnitude(number));
+}
+
+pub(crate) fn named(word: &[u8], number: i32) {
+    wide(word, number as i64);
 }
 
 // `ok` or `refused NUMBER at PLACE`.

@@ -66,6 +66,27 @@ pub struct Tabled {
     pub count: u32,
 }
 
+/// What kaihveto_explain answers.
+#[repr(C)]
+#[derive(Clone, Copy, Debug, Default, PartialEq, Eq)]
+pub struct Explained {
+    pub number: u32,
+    pub place: u32,
+    pub gap: u32,
+    pub minutes: u32,
+    pub left_ordinate: i64,
+    pub right_ordinate: i64,
+    pub left_slope: i64,
+    pub right_slope: i64,
+    pub left_curvature: i64,
+    pub right_curvature: i64,
+    pub denominator: i64,
+    pub knot: u32,
+    pub order: u32,
+    pub jump: i64,
+    pub allowance: i64,
+}
+
 /// What kaihveto_swing answers.
 #[repr(C)]
 #[derive(Clone, Copy, Debug, Default, PartialEq, Eq)]
@@ -135,7 +156,7 @@ pub struct End {
 
 #[cfg(archive)]
 mod linked {
-    use super::{Change, Checked, Fitted, Mean, Mended, Reading, Refitted, Spot, Swing, Tabled, Used, Written};
+    use super::{Change, Checked, Explained, Fitted, Mean, Mended, Reading, Refitted, Spot, Swing, Tabled, Used, Written};
 
     extern "C" {
         pub fn kaihveto_mean(first_minute: u16, log: *const u8, log_length: usize) -> Mean;
@@ -226,6 +247,7 @@ mod linked {
             curvatures: *mut i32,
             curvatures_length: usize,
         ) -> Tabled;
+        pub fn kaihveto_explain(card: *const u8, card_length: usize, minute: u16) -> Explained;
         pub fn kaihveto_swing(card: *const u8, card_length: usize) -> Swing;
         pub fn kaihveto_refit(
             card: *const u8,
@@ -396,6 +418,10 @@ pub fn table(card: &[u8], from: u16, values: &mut [i32], slopes: &mut [i32], cur
         curvatures.as_mut_ptr(),
         curvatures.len(),
     ))
+}
+
+pub fn explain(card: &[u8], minute: u16) -> Explained {
+    call!(kaihveto_explain(card.as_ptr(), card.len(), minute))
 }
 
 pub fn swing(card: &[u8]) -> Swing {

@@ -250,6 +250,190 @@ fn the_swing_has_the_cards_refusals() {
     assert_eq!(number_and_place(swing(&card_bytes(&MINUTES, &ORDINATES, &SLOPES, &[0; 5], 0, 0))), (10, 0));
 }
 
+/// An explanation's gap, minutes, parts and denominator.
+fn parts(card: &[u8], minute: u16) -> (u32, u32, [i128; 6], i128) {
+    let Explained { gap, minutes, parts, denominator } = explain(card, minute).unwrap();
+    (gap, minutes, parts, denominator)
+}
+
+/// Its number, place, order, jump and allowance, zeros where there is no reason.
+fn reason(card: &[u8], minute: u16) -> (u32, u32, u32, i128, i128) {
+    match explain(card, minute) {
+        Ok(_) => (0, 0, 0, 0, 0),
+        Err((Refusal { number, place }, None)) => (number, place, 0, 0, 0),
+        Err((Refusal { number, place }, Some(Jump { order, size, allowed }))) => (number, place, order, size, allowed),
+    }
+}
+
+/// Worked out in fractions by a program of its own, in another language. Over 8192·8^5 minute 4 is 250 + 0 −
+/// 250 − 70.3125 + 35.9375 + 20.3125, which is −14.0625, and minute 12 is 314.0625.
+#[test]
+fn table_3_is_explained() {
+    let (card, under) = (table_3_card(), 268_435_456);
+    let at_4 = [67_108_864_000, 0, -67_108_864_000, -18_874_368_000, 9_646_899_200, 5_452_595_200];
+    assert_eq!(parts(&card, 4), (0, 4, at_4, under));
+    assert_eq!(at_4.iter().sum::<i128>(), -3_774_873_600);
+    let at_12 = [0, 67_108_864_000, 18_874_368_000, 0, 5_452_595_200, -7_130_316_800];
+    assert_eq!(parts(&card, 12), (1, 4, at_12, under));
+    assert_eq!(at_12.iter().sum::<i128>(), 84_305_510_400);
+    // A knot's minute has its ordinate alone: an inner knot's in the gap on its right, the last one's in the
+    // last gap.
+    assert_eq!(parts(&card, 0), (0, 0, [134_217_728_000, 0, 0, 0, 0, 0], under));
+    assert_eq!(parts(&card, 8), (1, 0, [0; 6], under));
+    assert_eq!(parts(&card, 16), (2, 0, [134_217_728_000, 0, 0, 0, 0, 0], under));
+    assert_eq!(parts(&card, 32), (3, 8, [0, 134_217_728_000, 0, 0, 0, 0], under));
+    assert_eq!(reason(&card, 33), (11, 0, 0, 0, 0));
+}
+
+#[test]
+fn the_parts_of_every_minute_of_table_3_add_up() {
+    let card = table_3_card();
+    let knots = check(&card).unwrap().knots;
+    for minute in 0..=32 {
+        let explained = explain(&card, minute).unwrap();
+        let gap = (explained.gap as usize).min(3);
+        assert_eq!(i128::from(minute), knots[gap].x + i128::from(explained.minutes));
+        assert_eq!(explained.sum(), numerator(knots[gap], knots[gap + 1]).at(explained.minutes.into()), "minute {minute}");
+        let value = nearest_even(explained.sum(), explained.denominator);
+        assert_eq!(value, reading(&card, minute).unwrap().value.into(), "minute {minute}");
+        assert_eq!(explain(&sloped_bytes(&MINUTES, &ORDINATES, &SLOPES, &CURVATURES), minute), Ok(explained));
+    }
+}
+
+/// Table 3's card with these numbers at a knot.
+fn table_3_with(place: usize, slope: i32, curvature: i32, codes: [u16; 2]) -> Vec<u8> {
+    let (mut slopes, mut curvatures) = (SLOPES, CURVATURES);
+    slopes[place] = slope;
+    curvatures[place] = curvature;
+    card_bytes(&MINUTES, &ORDINATES, &slopes, &curvatures, codes[0], codes[1])
+}
+
+/// Three units of curvature at an inner knot between gaps of 8 are 3·6/8 of the third, of which 2·(16/64 +
+/// 4/8) is allowed: over 8³·8³ that is 589,824 and 393,216. Four units of slope are 4·32/8³ of the fourth, of
+/// which 2·(20/8³ + 4/8²) is allowed, over 8⁴·8⁴.
+#[test]
+fn p4_to_p6_have_their_reasons() {
+    let with = |curvature: i32| reason(&table_3_with(2, 0, curvature, [0, 0]), 16);
+    assert_eq!([-108_797, -108_803].map(with), [(10, 2, 3, 589_824, 393_216); 2]);
+    assert_eq!([-108_798, -108_802].map(with), [(0, 0, 0, 0, 0); 2]);
+    assert_eq!([3, 4].map(|m| reason(&table_3_with(2, m, -108_800, [0, 0]), 0)), [(0, 0, 0, 0, 0), (10, 2, 4, 4_194_304, 3_407_872)]);
+    assert_eq!(reason(&table_3_with(2, -4, -108_800, [0, 0]), 0), (10, 2, 4, 4_194_304, 3_407_872));
+    // What is accepted has the changed number in its parts: 64·(16·64·-108,798) in the middle of the gap.
+    assert_eq!(parts(&table_3_with(2, 0, -108_798, [0, 0]), 12).2[5], -108_798 * 65_536);
+}
+
+/// An end's one side over the one gap's power: by hand over 8³, and of three knots on a level over 1 and over
+/// 2³ or 2⁴.
+#[test]
+fn the_reasons_of_ends() {
+    let (first, last) = (|code| table_3_with(0, -819_203, 147_204, [code, 0]), |code| table_3_with(4, 819_203, 147_204, [0, code]));
+    assert_eq!([0, 1, 2].map(|code| reason(&first(code), 0)), [(10, 0, 3, 480, 384), (0, 0, 0, 0, 0), (0, 0, 0, 0, 0)]);
+    assert_eq!([0, 1, 2].map(|code| reason(&last(code), 0)), [(10, 4, 3, 480, 384), (0, 0, 0, 0, 0), (0, 0, 0, 0, 0)]);
+    // Both over: the third where it is asked, the fourth where it alone is.
+    let on_left = |code| reason(&card_bytes(&[0, 2, 4], &[0; 3], &[1, -5, 6], &[12, -4, 0], code, 0), 0);
+    assert_eq!([0, 1, 2].map(on_left), [(10, 0, 3, 104, 48), (0, 0, 0, 0, 0), (10, 0, 4, 68, 56)]);
+    let on_right = |code| reason(&card_bytes(&[0, 1, 2], &[0; 3], &[-1, -2, 5], &[5, -10, -3], 0, code), 2);
+    assert_eq!([0, 1, 2].map(on_right), [(10, 2, 3, 43, 20), (0, 0, 0, 0, 0), (10, 2, 4, 41, 24)]);
+    // The fourth alone where both are asked.
+    assert_eq!(reason(&card_bytes(&[0, 1, 2], &[0; 3], &[-3, 0, -2], &[9, 2, -6], 0, 0), 1), (10, 0, 4, 25, 24));
+    assert_eq!(reason(&card_bytes(&[0, 1, 2], &[0; 3], &[2, 0, 3], &[-6, 2, 9], 0, 0), 1), (10, 2, 4, 25, 24));
+}
+
+/// Between gaps of 1 and 2, and of 10 and 30: the product of both gaps' powers.
+#[test]
+fn the_reasons_between_uneven_gaps() {
+    let of =
+        |minutes: &[u16; 3], slope: i32, curvature: i32| reason(&card_bytes(minutes, &[0; 3], &[0, slope, 0], &[0, curvature, 0], 1, 1), 0);
+    assert_eq!([of(&[0, 1, 3], 2, -2), of(&[0, 1, 3], -2, 2)], [(10, 1, 3, 216, 208); 2]);
+    assert_eq!([of(&[0, 1, 3], 2, 2), of(&[0, 1, 3], -2, -2)], [(10, 1, 4, 504, 440); 2]);
+    assert_eq!([of(&[0, 1, 3], 2, -1), of(&[0, 1, 3], 2, 1)], [(10, 1, 4, 612, 440), (10, 1, 4, 540, 440)]);
+    assert_eq!([of(&[0, 2, 3], -2, -2), of(&[0, 2, 3], 2, 2)], [(10, 1, 3, 216, 208); 2]);
+    assert_eq!([of(&[0, 10, 40], 0, 1), of(&[0, 10, 40], 0, 2)], [(0, 0, 0, 0, 0), (10, 1, 3, 21_600_000, 19_200_000)]);
+    // The largest jump of the third that a card can have.
+    let (limit, high) = (CARD_NUMBER_LIMIT, 20_000);
+    let card = card_bytes(&[0, 60, 120], &[-high, high, -high], &[-limit, -limit, limit], &[-limit, limit, -limit], 1, 1);
+    assert_eq!(reason(&card, 0), (10, 1, 3, 8_155_991_900_160_000, 6_635_520_000));
+}
+
+/// Four gs a side, and never the fourth.
+#[test]
+fn the_reasons_of_given_slopes() {
+    let flat = |minutes: &[u16; 3], curvatures: [i32; 3]| reason(&sloped_bytes(minutes, &[0; 3], &[0; 3], &curvatures), 0);
+    assert_eq!(flat(&[0, 1, 2], [1, -1, 1]), (0, 0, 0, 0, 0));
+    assert_eq!(flat(&[0, 1, 2], [2, 1, 1]), (10, 0, 3, 5, 4));
+    assert_eq!(flat(&[0, 1, 2], [1, 1, 2]), (10, 2, 3, 5, 4));
+    assert_eq!(flat(&[0, 1, 2], [0, -2, 0]), (10, 1, 3, 12, 8));
+    assert_eq!(flat(&[0, 1, 3], [-2, -2, -1]), (10, 1, 3, 52, 48));
+    let with = |curvature: i32| {
+        let mut curvatures = CURVATURES;
+        curvatures[2] = curvature;
+        reason(&sloped_bytes(&MINUTES, &ORDINATES, &SLOPES, &curvatures), 16)
+    };
+    assert_eq!([-108_799, -108_798].map(with), [(0, 0, 0, 0, 0), (10, 2, 3, 393_216, 262_144)]);
+    // Its fourth jumps, of which nothing is asked: under the other head it is what is named.
+    assert_eq!(reason(&table_4_card(), 1), (0, 0, 0, 0, 0));
+    let (minutes, ordinates, slopes, curvatures) = TABLE_4;
+    let coded = |code: u16| reason(&card_bytes(&minutes, &ordinates, &slopes, &curvatures, code, code), 1);
+    assert_eq!([0, 1].map(coded), [(10, 0, 4, 387_480, 56), (10, 1, 4, 520_092, 440)]);
+}
+
+/// A jump is that of the exact curve: a third of the third derivative of N/(8192·h^5) and a twelfth of the
+/// fourth, in card units, on either side of the knot, and nothing beyond an end.
+#[test]
+fn a_reasons_jump_is_the_exact_curves() {
+    let mut random = Random::new(9);
+    let mut met = [0; 5];
+    for _ in 0..4000 {
+        let mut next = |most: i64| random.within(-most, most);
+        let [a, b] = [next(29) + 31, next(29) + 31].map(|gap| gap as u16);
+        let (slopes, curvatures) = ([(); 3].map(|()| next(40) as i32), [(); 3].map(|()| next(3) as i32));
+        let ordinates = [(); 3].map(|()| 7 * next(1) as i16 * i16::from(next(9) == 0));
+        let codes = [next(1), next(1)].map(|code| (code + 1) as u16);
+        let card = card_bytes(&[0, a, a + b], &ordinates, &slopes, &curvatures, codes[0], codes[1]);
+        let (10, place, order, jump, allowance) = reason(&card, 0) else { continue };
+        let knots = before_its_jumps(&card).unwrap().knots;
+        let derived = |left: usize, tau: i128| {
+            let third = numerator(knots[left], knots[left + 1]).derivative().derivative().derivative();
+            if order == 3 {
+                third.at(tau)
+            } else {
+                third.derivative().at(tau)
+            }
+        };
+        let (place, p, h) = (place as usize, i128::from(a), i128::from(b));
+        // Over 2·3·h^5 and 2·12·h^5: what is left of the cubes or the fourth powers.
+        let times = |gap: i128| if order == 3 { 6 * gap * gap } else { 24 * gap };
+        let (whole, wanted) = match place {
+            0 => (times(p), derived(0, 0)),
+            1 => (times(p) * times(h), (derived(1, 0) * p.pow(5) - derived(0, p) * h.pow(5)) * if order == 3 { 6 } else { 24 }),
+            _ => (times(h), derived(1, h)),
+        };
+        assert_eq!(whole * jump, wanted.abs(), "{card:?}");
+        assert!(jump > allowance, "{card:?}");
+        met[place] += 1;
+        met[order as usize] += 1;
+    }
+    assert!(met.iter().all(|&times| times > 20), "{met:?}");
+}
+
+#[test]
+fn only_a_10_has_a_reason_and_it_is_before_11() {
+    let card = table_3_card();
+    assert_eq!([0, 9, 57, 93].map(|length| reason(&card[..length], 4).0), [14; 4]);
+    assert_eq!(reason(&card[..93], 4), (14, 90, 0, 0, 0));
+    assert_eq!(reason(&card_bytes(&[0, 1], &[0; 2], &[0; 2], &[9; 2], 0, 0), 0), (1, 0, 0, 0, 0));
+    assert_eq!(reason(&card_bytes(&[0; 65], &[0; 65], &[0; 65], &[9; 65], 0, 0), 0), (2, 0, 0, 0, 0));
+    assert_eq!(reason(&card_bytes(&MINUTES, &ORDINATES, &SLOPES, &[0; 5], 0, 3), 4), (15, 1, 0, 0, 0));
+    assert_eq!(reason(&card_bytes(&[0, 1, 1], &[0; 3], &[9; 3], &[9; 3], 0, 0), 0), (4, 2, 0, 0, 0));
+    assert_eq!(reason(&card_bytes(&[0, 1, 62], &[0; 3], &[9; 3], &[9; 3], 0, 0), 0), (5, 2, 0, 0, 0));
+    assert_eq!(reason(&card_bytes(&[0, 1, 2], &[0, 20_001, 0], &[9; 3], &[9; 3], 0, 0), 0), (6, 1, 0, 0, 0));
+    // A number beyond its limit, though a knot before it jumps.
+    assert_eq!(reason(&card_bytes(&[0, 1, 2], &[0; 3], &[9, 0, CARD_NUMBER_LIMIT + 1], &[9; 3], 0, 0), 0), (9, 2, 0, 0, 0));
+    assert_eq!(reason(&table_3_with(2, 0, -108_797, [0, 0]), 33), (10, 2, 3, 589_824, 393_216));
+    let level = card_bytes(&[5, 7, 9], &[0; 3], &[0; 3], &[0; 3], 0, 0);
+    assert_eq!([0, 4, 5, 9, 10, 65_535].map(|minute| reason(&level, minute).0), [11, 11, 0, 0, 11, 11]);
+}
+
 /// Minute after minute, a knot at every second one, on one line.
 fn line_of(knots: usize) -> Vec<u8> {
     let minutes: Vec<u16> = (0..knots as u16).map(|i| 2 * i).collect();

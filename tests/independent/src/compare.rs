@@ -270,17 +270,20 @@ pub fn reading(tally: &mut Tally, card: &[u8], minute: u16) {
     compare_reading(tally, card, minute, || reference::reading(card, minute));
 }
 
-/// Every minute of a card, one before, one behind, and the two ends of all minutes; and how far its curve
-/// swings.
+/// Every minute of a card, one before, one behind, and the two ends of all minutes.
+fn minutes_of(card: &reference::Card) -> impl Iterator<Item = u16> {
+    let (first, last) = (card.minutes[0], card.minutes[card.minutes.len() - 1]);
+    (first.saturating_sub(1)..=last.saturating_add(1)).chain([0, u16::MAX])
+}
+
+/// A card read at all of these; and how far its curve swings.
 pub fn readings(tally: &mut Tally, card: &[u8]) {
     swing(tally, card);
     let Ok(sound) = reference::check(card) else {
         reading(tally, card, 0);
         return;
     };
-    let (first, last) = (sound.minutes[0], sound.minutes[sound.minutes.len() - 1]);
-    let (from, to) = (first.saturating_sub(1), last.saturating_add(1));
-    for minute in (from..=to).chain([0, u16::MAX]) {
+    for minute in minutes_of(&sound) {
         compare_reading(tally, card, minute, || reference::reading_of(&sound, minute));
     }
 }
@@ -301,6 +304,65 @@ pub fn table(tally: &mut Tally, card: &[u8], from: u16, lengths: [usize; 3]) {
     };
     let input = || format!("from {from} off {} into {lengths:?}", hex(card));
     tally.count("table", wanted_answer.number, answer, wanted_answer, ours == wanted, input);
+}
+
+/// An answer's whole number in the 64 bits that the boundary has for it.
+fn narrowed(number: i128) -> i64 {
+    number.try_into().expect("the limits of a card keep it within 64 bits")
+}
+
+fn explained(answer: Result<reference::Explained, (Refusal, Option<reference::Jump>)>) -> boundary::Explained {
+    match answer {
+        Ok(reference::Explained { gap, minutes, parts, denominator }) => {
+            let [left_ordinate, right_ordinate, left_slope, right_slope, left_curvature, right_curvature] = parts.map(narrowed);
+            boundary::Explained {
+                gap,
+                minutes,
+                left_ordinate,
+                right_ordinate,
+                left_slope,
+                right_slope,
+                left_curvature,
+                right_curvature,
+                denominator: narrowed(denominator),
+                ..Default::default()
+            }
+        }
+        Err((Refusal { number, place }, None)) => boundary::Explained { number, place, ..Default::default() },
+        Err((Refusal { number, place }, Some(reference::Jump { order, size, allowed }))) => {
+            let (jump, allowance) = (narrowed(size), narrowed(allowed));
+            boundary::Explained { number, place, knot: place, order, jump, allowance, ..Default::default() }
+        }
+    }
+}
+
+fn compare_explanation(
+    tally: &mut Tally,
+    card: &[u8],
+    minute: u16,
+    wanted: impl FnOnce() -> Result<reference::Explained, (Refusal, Option<reference::Jump>)>,
+) {
+    if !tally.takes_the_next() {
+        return;
+    }
+    let wanted = explained(wanted());
+    tally.count("explain", wanted.number, boundary::explain(card, minute), wanted, true, || format!("at {minute} off {}", hex(card)));
+}
+
+/// Why a card reads what it reads at a minute, or why it is refused.
+pub fn explain(tally: &mut Tally, card: &[u8], minute: u16) {
+    compare_explanation(tally, card, minute, || reference::explain(card, minute));
+}
+
+/// The same at all of a card's minutes and about them.
+pub fn explanations(tally: &mut Tally, card: &[u8]) {
+    let Ok(sound) = reference::check(card) else {
+        explain(tally, card, 0);
+        return;
+    };
+    for minute in minutes_of(&sound) {
+        compare_explanation(tally, card, minute, || reference::explain_of(&sound, minute).map_err(|refusal| (refusal, None)));
+    }
 }
 
 /// How far a card's curve swings.

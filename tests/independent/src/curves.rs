@@ -304,6 +304,25 @@ pub fn large_on(random: &mut Random, gap: u16) -> Option<Numbers> {
     Some(numbers)
 }
 
+/// Three knots on gaps of this width, alike on both sides of the middle, with the outer slopes and curvatures
+/// at their limits and one of the two ordinates at its own, each with the sign that is given. The middle has
+/// slope 0, and the ordinates are so far apart that the one equation left asks for a small curvature there.
+pub fn largest_on(gap: u16, ordinate: i128, slope: i128, curvature: i128) -> Numbers {
+    let (h, highest) = (i128::from(gap), i128::from(ORDINATE_LIMIT));
+    let (m, c) = (slope * i128::from(CARD_NUMBER_LIMIT), curvature * i128::from(CARD_NUMBER_LIMIT));
+    // 20D − 8m′h + (M′ − 3M)h² is 0.
+    let rise = reference::nearest_even(8 * m * h - c * h * h, 20 * 4096).clamp(-2 * highest, 2 * highest);
+    let middle_c = reference::nearest_even(20 * 4096 * rise - 8 * m * h + c * h * h, 3 * h * h);
+    let below = ordinate * highest - rise;
+    let y = if below.abs() <= highest { below } else { ordinate * highest };
+    let sheet = Sheet { minutes: vec![], ordinates: vec![] };
+    let mut numbers = Numbers { kind: Kind::Quintic, sheet, slopes: vec![], curvatures: vec![], left: 1, right: 1 };
+    numbers.knot(9, (y + rise) as i16, -m as i32, c as i32);
+    numbers.knot(9 + gap, y as i16, 0, middle_c as i32);
+    numbers.knot(9 + 2 * gap, (y + rise) as i16, m as i32, c as i32);
+    numbers
+}
+
 /// The next knot's slope and curvature so that neither order jumps at this one, as near as whole numbers go.
 fn carried_on(before: Knot, knot: Knot, x: i128, y: i128) -> (i128, i128) {
     let h = x - knot.x;

@@ -3,7 +3,7 @@
 //! linked with the library. KAIHVETO_FAR names that program, and KAIHVETO_RUN the command that runs it, where
 //! it does not run by itself.
 
-use crate::boundary::{Change, Checked, Fitted, Mean, Mended, Reading, Refitted, Spot, Swing, Tabled, Used, Written};
+use crate::boundary::{Change, Checked, Explained, Fitted, Mean, Mended, Reading, Refitted, Spot, Swing, Tabled, Used, Written};
 use std::env;
 use std::ffi::{OsStr, OsString};
 use std::io::{BufReader, Read, Write};
@@ -259,6 +259,10 @@ pub unsafe fn kaihveto_table(
     far.list(slopes, slopes_length);
     far.list(curvatures, curvatures_length);
     answer
+}
+
+pub unsafe fn kaihveto_explain(card: *const u8, card_length: usize, minute: u16) -> Explained {
+    Call::new(b'y').list(card, card_length).number(minute.into()).made().answer()
 }
 
 pub unsafe fn kaihveto_swing(card: *const u8, card_length: usize) -> Swing {

@@ -205,8 +205,8 @@ fn lengths(tally: &mut Tally, random: &mut Random) {
     }
 }
 
-/// One spoilt or sound card, by all that reads cards; by the swing, which reads every minute, where it has
-/// few knots.
+/// One spoilt or sound card, by all that reads cards; by the swing, which reads every minute, and by the
+/// explanation where it has few knots.
 pub(crate) fn card(tally: &mut Tally, random: &mut Random, bytes: &[u8]) {
     if bytes.len() < card_size(12) {
         compare::swing(tally, bytes);
@@ -216,7 +216,11 @@ pub(crate) fn card(tally: &mut Tally, random: &mut Random, bytes: &[u8]) {
     compare::read(tally, bytes, [places; 4]);
     compare::refit(tally, bytes, [places; 2]);
     let minute = if bytes.len() > 16 { u16::from_le_bytes([bytes[14], bytes[15]]) } else { 0 };
-    compare::reading(tally, bytes, minute.wrapping_add(random.within(0, 6) as u16));
+    let minute = minute.wrapping_add(random.within(0, 6) as u16);
+    compare::reading(tally, bytes, minute);
+    if bytes.len() < card_size(5) {
+        compare::explain(tally, bytes, minute);
+    }
 }
 
 /// Every change of one byte: all 255 other values, or some of them.
@@ -600,6 +604,199 @@ fn swings(tally: &mut Tally, random: &mut Random) {
     }
 }
 
+/// The reasons that refused cards had: at which knot, which orders were over there, and what was asked of it;
+/// and the ends that were over in an order which their code does not ask for.
+#[derive(Default)]
+struct Reasons(BTreeMap<[&'static str; 3], u64>);
+
+impl Reasons {
+    fn count(&mut self, bytes: &[u8]) {
+        let Ok(card) = reference::before_its_jumps(bytes) else { return };
+        let last = card.minutes.len() - 1;
+        let refused = reference::check(bytes).err().map(|refusal| refusal.place as usize);
+        let over = |place: usize| match reference::over_at(&card, place) {
+            [false, false] => "none",
+            [true, false] => "the third alone",
+            [false, true] => "the fourth alone",
+            [true, true] => "both",
+        };
+        if let Some(place) = refused {
+            let (at, code) = match place {
+                0 => ("first", card.left),
+                _ if place == last => ("last", card.right),
+                _ => ("inner", 0),
+            };
+            let asked = match card.kind {
+                Kind::Quintic => ["both asked", "none asked", "the fourth asked"][usize::from(code)],
+                Kind::Sloped => "given slopes",
+            };
+            *self.0.entry([at, over(place), asked]).or_default() += 1;
+        }
+        for (at, place, code) in [("first", 0, card.left), ("last", last, card.right)] {
+            if code > 0 && refused.map_or(true, |refused| refused > place) {
+                *self.0.entry([at, over(place), ["", "passed, none asked", "passed, the fourth asked"][usize::from(code)]]).or_default() +=
+                    1;
+            }
+        }
+    }
+
+    fn all(&self) {
+        let mut wanted = Vec::new();
+        for at in ["first", "inner", "last"] {
+            wanted.extend(["the third alone", "the fourth alone", "both"].map(|over| [at, over, "both asked"]));
+            wanted.extend(["the third alone", "both"].map(|over| [at, over, "given slopes"]));
+        }
+        for at in ["first", "last"] {
+            wanted.extend(["the fourth alone", "both"].map(|over| [at, over, "the fourth asked"]));
+            wanted.push([at, "the third alone", "passed, the fourth asked"]);
+            wanted.extend(["the third alone", "the fourth alone", "both"].map(|over| [at, over, "passed, none asked"]));
+        }
+        for reason in wanted {
+            assert!(self.0.contains_key(&reason), "no card was so: {reason:?}");
+        }
+    }
+}
+
+/// Of every minute of an accepted card: its parts add up to the exact curve's numerator, and that rounds to
+/// the value that is read there.
+fn parts_add_up(bytes: &[u8]) {
+    let Ok(card) = reference::check(bytes) else { return };
+    for minute in card.minutes[0]..=card.minutes[card.minutes.len() - 1] {
+        let explained = reference::explain_of(&card, minute).expect("a minute of the card");
+        let (left, right) = (card.knots[explained.gap as usize], card.knots[explained.gap as usize + 1]);
+        assert_eq!(left.x + i128::from(explained.minutes), minute.into());
+        assert_eq!(explained.sum(), reference::numerator(left, right).at(explained.minutes.into()), "{card:?} at {minute}");
+        let value = reference::nearest_even(explained.sum(), explained.denominator);
+        assert_eq!(value, reference::reading_of(&card, minute).expect("a minute of the card").value.into(), "{card:?} at {minute}");
+    }
+}
+
+/// One card explained at every minute, the parts seen to add up.
+fn explained(tally: &mut Tally, numbers: &Numbers) {
+    let bytes = numbers.bytes();
+    parts_add_up(&bytes);
+    compare::explanations(tally, &bytes);
+}
+
+/// Cards with the largest numbers on a gap, each part of some value above 0 and of some below: on a gap of
+/// one minute the ordinates' alone.
+fn explained_at_the_limits(tally: &mut Tally, random: &mut Random, gap: u16) {
+    let (mut above, mut below) = ([false; 6], [false; 6]);
+    for signs in 0..8 {
+        let [ordinate, slope, curvature] = [1, 2, 4].map(|bit| if signs & bit == 0 { 1 } else { -1 });
+        let numbers = curves::largest_on(gap, ordinate, slope, curvature);
+        let card = reference::check(&numbers.bytes()).unwrap_or_else(|refusal| panic!("{refusal:?} of {numbers:?}"));
+        for minute in card.minutes[0]..=card.minutes[2] {
+            let parts = reference::explain_of(&card, minute).expect("a minute of the card").parts;
+            (0..6).for_each(|part| above[part] |= parts[part] > 0);
+            (0..6).for_each(|part| below[part] |= parts[part] < 0);
+        }
+        explained(tally, &numbers);
+    }
+    let parts = if gap == 1 { 2 } else { 6 };
+    assert!(above[..parts].iter().chain(&below[..parts]).all(|met| *met), "a part of one sign on a gap of {gap}");
+    for numbers in (0..3).filter_map(|_| curves::large_on(random, gap)) {
+        explained(tally, &numbers);
+    }
+}
+
+/// A card with one number or two of a knot changed by a few units, which as a rule is refused with 10; at an
+/// end now and then both of them together, so that one order alone jumps.
+fn changed_a_little(random: &mut Random, numbers: &Numbers) -> (Numbers, usize) {
+    let n = numbers.slopes.len();
+    let mut changed = numbers.clone();
+    let place = random.pick(&[0, 1, n / 2, n - 2, n - 1]);
+    let most = random.pick(&[2, 4, 8, 30, 200]);
+    if (place == 0 || place == n - 1) && random.once_in(2) {
+        let minutes = &numbers.sheet.minutes;
+        let (sign, h) = if place == 0 { (-1, minutes[1] - minutes[0]) } else { (1, minutes[n - 1] - minutes[n - 2]) };
+        // With 16m + 3Mh as it was the third alone jumps, and with 12m + 3Mh the fourth, on the left.
+        let (curvature, under) = (random.within(-most, most), random.pick(&[16, 12]));
+        let slope = reference::nearest_even(3 * i128::from(curvature) * i128::from(h), under);
+        changed.slopes[place] += sign * slope as i32;
+        changed.curvatures[place] += curvature as i32;
+        return (changed, place);
+    }
+    for _ in 0..random.within(1, 2) {
+        let list = if random.once_in(2) { &mut changed.slopes } else { &mut changed.curvatures };
+        list[place] += random.within(-most, most) as i32;
+    }
+    (changed, place)
+}
+
+/// Cards about their allowances, and cards changed by a few units, each with the reason of its refusal, at
+/// minutes of theirs and behind them.
+fn reasons(tally: &mut Tally, random: &mut Random) {
+    let mut met = Reasons::default();
+    for turn in 0..1_000 {
+        let (n, [left, right]) = (random.within(3, 6) as usize, mixes()[turn % 9]);
+        let numbers = match turn % 4 {
+            0 => curves::fitted_to_slopes(random, n),
+            1 => curves::fitted(random, n, left, right),
+            // Near both orders at its ends, whatever is asked there.
+            _ => Numbers { left, right, ..curves::fitted(random, n, 0, 0) },
+        };
+        for _ in 0..9 {
+            let (changed, place) = changed_a_little(random, &numbers);
+            met.count(&changed.bytes());
+            let behind = u16::from(random.once_in(4)) * 60;
+            compare::explain(tally, &changed.bytes(), changed.sheet.minutes[place].wrapping_add(behind));
+        }
+        if turn % 8 == 0 {
+            let (place, slope, step) = (random.below(n), random.once_in(2), random.pick(&[1, -1]));
+            let (within, past) = curves::about_the_allowance(&numbers, place, slope, step);
+            for sides in [&within, &past] {
+                met.count(&sides.bytes());
+                compare::explain(tally, &sides.bytes(), sides.sheet.minutes[place]);
+                compare::explain(tally, &sides.headed(random.pick(&[1, 6])), sides.sheet.minutes[0]);
+            }
+        }
+    }
+    met.all();
+}
+
+/// Explanations: of Table 3's card and of fitted ones on many gaps, of cards with the largest numbers, of
+/// cards that are refused for a jump, of both kinds of card, and of cards that are refused for all else.
+fn explanations(tally: &mut Tally, random: &mut Random) {
+    for numbers in [curves::table_3(), curves::table_3_sloped(), curves::p7()] {
+        explained(tally, &numbers);
+        explained(tally, &at_the_last_minute(&numbers));
+    }
+    for minutes in about_the_weight_sheet(random) {
+        let [left, right] = random.pick(&mixes());
+        explained(tally, &curves::fitted_at(random, &minutes, left, right));
+        explained(tally, &curves::fitted_to_slopes_at(random, &minutes));
+    }
+    for gap in 1..=WIDEST_GAP {
+        let minutes = minutes_after(random.within(0, 60_000) as u16, &[gap, random.within(1, 60) as u16]);
+        let [left, right] = random.pick(&mixes());
+        explained(tally, &curves::fitted_at(random, &minutes, left, right));
+        explained(tally, &curves::fitted_to_slopes_at(random, &minutes));
+        explained_at_the_limits(tally, random, gap);
+    }
+    for n in 3..=MOST_KNOTS {
+        let [left, right] = random.pick(&mixes());
+        for numbers in [curves::fitted(random, n, left, right), curves::fitted_to_slopes(random, n)] {
+            let bytes = numbers.bytes();
+            for &minute in &numbers.sheet.minutes {
+                compare::explain(tally, &bytes, minute.saturating_sub(random.below(2) as u16));
+            }
+        }
+    }
+    reasons(tally, random);
+    for turn in 0..4_000 {
+        let n = random.within(3, 6) as usize;
+        let mut numbers = curves::extreme(random, n);
+        if turn % 2 == 0 {
+            numbers = Numbers { kind: Kind::Sloped, left: random.pick(&[0, 0, 0, 0, 1]), right: 0, ..numbers };
+        }
+        if random.once_in(4) {
+            curves::spoil(random, &mut numbers.sheet);
+        }
+        compare::explain(tally, &numbers.bytes(), numbers.sheet.minutes[random.below(n)]);
+    }
+}
+
 /// A card fitted anew, into lists of every useful length, equal and not.
 pub(crate) fn refit_into_all(tally: &mut Tally, bytes: &[u8], n: usize) {
     for places in [0, n - 1, n, n + 1, 66] {
@@ -806,7 +1003,7 @@ fn mends(tally: &mut Tally, random: &mut Random) {
 
 /// The numbers that the comparisons of each function have to meet, so that inputs which no longer reach one of them are seen. 8 is
 /// missing, which no input is known to meet, and the fits' 10, which none of these does.
-const TO_BE_MET: [(&str, &[u32]); 15] = [
+const TO_BE_MET: [(&str, &[u32]); 16] = [
     ("mean", &[0, 16, 12, 13, 23, 19]),
     ("fit", &[0, 3, 1, 2, 4, 5, 6, 9]),
     ("fit_ends", &[0, 3, 1, 2, 15, 4, 5, 6, 7, 9]),
@@ -817,6 +1014,7 @@ const TO_BE_MET: [(&str, &[u32]); 15] = [
     ("read", &[0, 3, 14, 1, 2, 15, 4, 5, 6, 9, 10, 26]),
     ("reading", &[0, 14, 1, 2, 15, 4, 5, 6, 9, 10, 11]),
     ("table", &[0, 3, 14, 15, 4, 5, 6, 9, 10, 11]),
+    ("explain", &[0, 14, 1, 2, 15, 4, 5, 6, 9, 10, 11]),
     ("swing", &[0, 14, 1, 2, 15, 4, 5, 6, 9, 10]),
     ("refit", &[0, 3, 14, 1, 2, 15, 4, 5, 6, 9, 10, 26]),
     ("mend", &[0, 3, 1, 2, 4, 5, 6, 17, 18, 9]),
@@ -842,7 +1040,7 @@ type Group = fn(&mut Tally, &mut Random);
 /// whether nothing differed and, of all questions, nothing was left unmet: a part may miss a number that few
 /// of them meet.
 pub fn run(part: Option<u64>) -> bool {
-    let groups: [(&str, Group); 27] = [
+    let groups: [(&str, Group); 28] = [
         ("logs", logs),
         ("fits", fits),
         ("given numbers", given),
@@ -870,6 +1068,7 @@ pub fn run(part: Option<u64>) -> bool {
         ("given slopes near the allowance", slopes::near_the_allowance),
         ("given slopes at the limit and fitted anew", slopes::fresh_fits_and_limits),
         ("books of both kinds of card", books::books_of_both_kinds),
+        ("explanations", explanations),
     ];
     let mut tally = Tally::new(part);
     for (seed, (name, group)) in groups.iter().enumerate() {

@@ -209,6 +209,18 @@ impl Asked {
         format!("{}; value {value}; slope {slope}; curvature {curvature}; looks {looks}", verdict(&answer))
     }
 
+    fn explain(&self) -> String {
+        let answer = explain(&self.card, self.minute);
+        let Explained { gap, minutes, parts, denominator } = answer.unwrap_or_default();
+        let (knot, Jump { order, size, allowed }) = match answer {
+            Err((Refusal { place, .. }, Some(jump))) => (place, jump),
+            _ => (0, Jump { order: 0, size: 0, allowed: 0 }),
+        };
+        let verdict = verdict(&answer.map_err(|(refusal, _)| refusal));
+        format!("{verdict}; gap {gap}; minutes {minutes}{}; denominator {denominator}", shown("parts", &parts))
+            + &format!("; knot {knot}; order {order}; jump {size}; allowance {allowed}")
+    }
+
     fn swing(&self) -> String {
         let answer = swing(&self.card);
         let Swing { knot, minute, below, above } = answer.unwrap_or_default();
@@ -239,6 +251,7 @@ impl Asked {
             "check" => Ok(self.check()),
             "read" => Ok(self.read()),
             "reading" => Ok(self.reading()),
+            "explain" => Ok(self.explain()),
             "swing" => Ok(self.swing()),
             "mend" => Ok(self.mend()),
             _ => Err(format!("nothing is asked by {word}")),
