@@ -17,6 +17,7 @@ use Rattle.card_bytes.proofs.ByHead.{known-by, accepted-count}
 use Rattle.card.specs.Answers.{own, read-off}
 use Rattle.table.specs.Promise.{table-verdict, Tables}
 use Rattle.swing.specs.Swing.{swung}
+use Rattle.explain.specs.Explain.{explain}
 use Rattle.book.specs.Lookup.{look-up, part}
 use Rattle.exact_fit.proofs.Solution.{one-exact}
 use Rattle.curve.specs.Card.{knots}
@@ -27,7 +28,7 @@ use Rattle.exists.specs.Sound.{Sound}
 use Rattle.slope_fit.specs.SlopesFit.{standing}
 use Rattle.sloped.specs.Sloped as Sloped
 use Rattle.sloped.proofs.Sloped.{one-solution, within-two}
-use Rattle.demands.specs.Calls.{A-fit, A-fit-between, A-fit-slopes, without-ends, between-ends, by-slopes, sloped-card, buffer, A-check, checked-bytes, read-bytes, places, reading-bytes, minute, A-table, table-bytes, from, lists-for, lists-for′, swing-bytes, first-minute, log, sheet-minutes, sheet, A-book-find, the-book, the-room, the-part, A-book-put, put-book, put-book′, put-room, put-card}
+use Rattle.demands.specs.Calls.{A-fit, A-fit-between, A-fit-slopes, without-ends, between-ends, by-slopes, sloped-card, buffer, A-check, checked-bytes, read-bytes, places, reading-bytes, minute, A-table, table-bytes, from, lists-for, lists-for′, swing-bytes, explained-bytes, explained-minute, first-minute, log, sheet-minutes, sheet, A-book-find, the-book, the-room, the-part, A-book-put, put-book, put-book′, put-room, put-card}
 use Rattle.demands.specs.Demands.{Fit-says, Off, before-8-of-slopes, Demand-1, Demand-2, Demand-3, Demands}
 use Rattle.fit.proofs.Numbered.{codes-numbered}
 use Rattle.demands.proofs.Numbered.{accepts}
@@ -42,6 +43,7 @@ use Rattle.demands.proofs.Books.{find-answers, put-answers, put-spares,
 use Rattle.demands.proofs.RoundTrip.{written-accepted, written-held, written-headed, accepted-as, accepts-its-card, reads-its-card, made-again}
 use Rattle.demands.proofs.Off.{stands-on-a-gap, of-card, within-2, flat-ends, close, at-knots, looks, gap-left, on-its-card, in-table, table-counted}
 use Rattle.demands.proofs.Swung.{swings}
+use Rattle.demands.proofs.Explaining.{explain-answers, explain-zeros, explain-no-reason, explain-why, explain-names, explain-fits, explain-made}
 use Rattle.demands.proofs.NeverTen.{codes-never, written-never, checked-never, read-never, read-off-never, table-never, fitted-never, mended-never, refitted-never}
 
 -- ---- 1
@@ -81,6 +83,9 @@ one =
       table-spares = λ c. table-spares (c .promised);
       swing = λ c. swing-answers (swing-bytes c) (c .promised) .0;
       swing-zeros = λ c. swing-answers (swing-bytes c) (c .promised) .1;
+      explain = λ c. explain-answers (explained-bytes c) (explained-minute c) (c .promised);
+      explain-zeros = λ c. explain-zeros (explained-bytes c) (explained-minute c) (c .promised);
+      explain-no-reason = λ c. explain-no-reason (explained-bytes c) (explained-minute c) (c .promised);
       refit = λ c. refit-answers (c .promised) .0;
       refit-zeros = λ c. refit-answers (c .promised) .1;
       refit-spares = λ c. refit-spares (c .promised);
@@ -179,6 +184,7 @@ off s a =
           (on-its-card s a tables v i l, λ r again there. in-table s a tables v i l (r .promised ∙ ap₂ read-off again there));
       table-counts = λ t same zero. table-counted s a (table-of t same) (table-accepted t same zero);
       swings = λ w same. swings s a (w .promised ∙ ap (λ s. swung (own s) (card-of s)) same);
+      explains = λ c same h. explain-made s (explained-minute c) a h (c .promised ∙ ap (λ s. explain s (explained-minute c)) same);
       jumps = of-card s a .jumps;
       within-2 = within-2 s a;
       flat-ends = flat-ends s a;
@@ -207,6 +213,11 @@ three : Demand-3
 three =
     record {
       off = λ c zero. off (checked-bytes c) (tested c zero);
+      explain-why = λ c. explain-why (explained-bytes c) (explained-minute c) (c .promised);
+      explain-names = λ c k same.
+          explain-names (explained-bytes c) (explained-minute c) (c .promised)
+          (one .check k .number ∙ ap (λ s. number (own s)) same) (one .check k .place ∙ ap (λ s. place (own s)) same);
+      explain-fits = λ c. explain-fits (explained-bytes c) (explained-minute c) (c .promised);
       found-off = λ c zero. off (the-part c) (part-passes (the-room c) (the-book c) (c .promised) zero);
       write-never-10 = λ w half e. written-never (known-writer w) half (length (buffer w)) (sym (one .write w .number) ∙ e);
       check-never-10 = λ c half e. checked-never (checked-bytes c) half (sym (one .check c .number) ∙ e);
@@ -214,6 +225,7 @@ three =
       reading-never-10 = λ c half e. read-off-never (reading-bytes c) half (minute c) (sym (one .reading c .number) ∙ e);
       table-never-10 = λ c half e. table-never (table-bytes c) half (lists-for c) (from c) (sym (one .table c .number) ∙ e);
       swing-never-10 = λ c half e. checked-never (swing-bytes c) half (sym (one .swing c .number) ∙ e);
+      explain-never-10 = λ c half e. read-off-never (explained-bytes c) half (explained-minute c) (sym (one .explain c .number) ∙ e);
       book-find-never-10 = λ c half e. find-never (the-room c) (the-book c) half (sym (one .book-find c .number) ∙ e);
       book-put-never-10 = λ c half e. puts-never (put-room c) (put-card c) (put-book c) half (sym (one .book-put c .number) ∙ e);
       fit-never-10 = λ c half e. fitted-never (without-ends c) given-never half (sym (fits c .number) ∙ e);

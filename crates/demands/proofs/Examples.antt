@@ -1,8 +1,9 @@
 -- The page is of something: each function accepts a call. Table 3's knots are accepted by the fit without
 -- ends, between free ends and to Table 3's slopes, whose card is written and told as of kind 6; its card is
--- accepted by the writer, its bytes by the card test, the reader, a reading, a table, the swing and the fresh
--- fit, and it is within half a unit of an exact solution, as are the numbers of these fits; it is put into a
--- book and found there. P7's knots with a hole are mended, and P8's log has a mean. Assumes nothing.
+-- accepted by the writer, its bytes by the card test, the reader, a reading, a table, the swing, an
+-- explanation and the fresh fit, and it is within half a unit of an exact solution, as are the numbers of
+-- these fits; it is put into a book and found there. P7's knots with a hole are mended, and P8's log has a
+-- mean. Assumes nothing.
 use mathlib.Core.Path.{_≡_, refl, sym, ap, ap₂, _∙_, subst}
 use mathlib.Core.Logic.{inl, inr}
 use mathlib.Core.List.{List, [], _∷_, _++_}
@@ -39,6 +40,7 @@ use Rattle.card.specs.Promise.{Lists, into}
 use Rattle.table.specs.Table.{table-order, tabled}
 use Rattle.table.specs.Promise.{Columns, table-verdict, rows}
 use Rattle.swing.specs.Swing.{swung}
+use Rattle.explain.specs.Explain.{explain}
 use Rattle.swing.proofs.Examples.{cards}
 use Rattle.writer.specs.Promise.{written}
 use Rattle.knots.specs.Lent.{lent}
@@ -73,7 +75,7 @@ use Rattle.book_put.specs.Put.{entry, put-in, after}
 use Rattle.book_put.proofs.Answers.{fits}
 use Rattle.bookkeeping.proofs.Inverse.{no-room}
 use Rattle.kaihveto.specs.Types.{Minutes, Room}
-use Rattle.demands.specs.Calls.{A-mean, A-fit, A-fit-between, A-fit-slopes, without-ends, between-ends, card-between, by-slopes, worked-out, A-write, A-write-slopes, with-codes, with-slopes, written-card, A-check, A-read, A-reading, A-table, A-swing, fresh-job, A-refit, anew, A-mend, of-the-mended, A-book-put, A-book-find}
+use Rattle.demands.specs.Calls.{A-mean, A-fit, A-fit-between, A-fit-slopes, without-ends, between-ends, card-between, by-slopes, worked-out, A-write, A-write-slopes, with-codes, with-slopes, written-card, A-check, A-read, A-reading, A-table, A-swing, A-explain, fresh-job, A-refit, anew, A-mend, of-the-mended, A-book-put, A-book-find}
 use Rattle.demands.specs.Demands.{Is-given, Room-for, On-the-card, Half-a-unit, Half-a-unit-held}
 use Rattle.demands.proofs.Numbers.{typed}
 use Rattle.demands.proofs.Jobs as Jobs
@@ -426,6 +428,12 @@ module _ (lifetime : Lft) (pointer : ℕ × ℕ) (name : GName) where
   pub reading-looks : reading-call .answer .looks ≡ 2
   unfolding middle look looking every-gap found p1 table-3
   reading-looks = hold-all .three .off check-call check-accepts .looks reading-call refl on-the-bytes .counted ∙ ap (λ c. found (c .minutes) 4 .looks) (table-3-bytes .2)
+
+  abbrev pub explain-call : A-explain
+  explain-call = record { lifetimes = (lifetime, tt); arguments = (list bytes, (4, tt)); answer = explain bytes 4; exit = (list bytes, (4, tt)); promised = refl }
+
+  pub explain-accepts : explain-call .answer .number ≡ 0
+  explain-accepts = hold-all .three .off check-call check-accepts .explains explain-call refl on-the-bytes .0
 
   -- into a buffer of just the card's size
   abbrev pub write-call : A-write

@@ -6,6 +6,7 @@ pub mod Answered
 pub mod RoundTrip
 pub mod Off
 pub mod Swung
+pub mod Explaining
 pub mod NeverTen
 pub mod Given
 pub mod Books

@@ -4,15 +4,15 @@
 use Prim.Native.Nat.{ℕ}
 use mathlib.Core.Path.{refl, sym, subst}
 use mathlib.Core.Logic.{_≢_, inl, inr}
-use mathlib.Core.Bool.{Bool, true, not}
+use mathlib.Core.Bool.{true}
 use mathlib.Core.List.{List}
 use native.Mathlib.Omega.{arith}
-use lib.Dec.{T, lit<, eqb, eqb-refl, T-not}
+use lib.Dec.{lit<}
 use lib.IntN.{ℤ}
 use lib.ListN.{length}
 use Rattle.answer.specs.Answer.{accepted, number, refuse, each}
 use Rattle.answer.specs.Judge.{numbered}
-use Rattle.answer.proofs.Never.{Never, never-number, never-then, never-each, never-refuse, given-never}
+use Rattle.answer.proofs.Never.{Never, never-number, never-then, never-each, given-never, never-other as other}
 use Rattle.curve.specs.Kind.{Kind, quintic, sloped}
 use Rattle.curve.specs.Card.{Card, knots}
 use Rattle.curve.specs.Steps.{lengths, counted, codes, stands, in-range, slope-in-range, smooth, outside, room}
@@ -46,9 +46,6 @@ use Rattle.refit.specs.Fresh.{refit}
 use Rattle.demands.specs.Calls.{Job, between, to-slopes, Fitting, fit-by, card-by, the-fit, worked-out, fresh-job, A-refit, refit-bytes, fresh-slopes, fresh-curvatures, old-card, anew}
 use Rattle.demands.specs.Demands.{Half-a-unit, Half-a-unit-held}
 use Rattle.demands.proofs.Jobs.{named-by, kind-for, fresh-by-job, fresh-named, fresh-kind}
-
-other : (n p : ℕ) (test : Bool) → T (not (eqb n 10)) → Never 10 (refuse n p test)
-other n p test t = never-refuse 10 n p test (λ e. T-not (eqb n 10) t (subst (λ k. T (eqb n k)) e (eqb-refl n)))
 
 -- ---- steps
 

@@ -43,6 +43,7 @@ use Rattle.kaihveto.proofs.kaihveto_read.Reads as read
 use Rattle.kaihveto.proofs.kaihveto_reading.Reads as reading
 use Rattle.kaihveto.proofs.kaihveto_table.Reads as table
 use Rattle.kaihveto.proofs.kaihveto_swing.Reads as swing
+use Rattle.kaihveto.proofs.kaihveto_explain.Reads as explain
 use Rattle.kaihveto.proofs.kaihveto_refit.Reads as refit
 use Rattle.kaihveto.proofs.kaihveto_book_find.Reads as book-find
 use Rattle.kaihveto.proofs.kaihveto_book_put.Reads as book-put
@@ -295,6 +296,17 @@ A-swing = Call swing.Post
 
 abbrev pub swing-bytes : A-swing → List ℕ
 swing-bytes c = now (c .arguments .0)
+
+-- ---- kaihveto_explain(card, minute)
+
+abbrev pub A-explain : Type 0
+A-explain = Call explain.Post
+
+abbrev pub explained-bytes : A-explain → List ℕ
+explained-bytes c = now (c .arguments .0)
+
+abbrev pub explained-minute : A-explain → ℕ
+explained-minute c = c .arguments .1 .0
 
 -- ---- kaihveto_refit(card, slopes, curvatures)
 

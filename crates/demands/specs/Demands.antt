@@ -1,10 +1,10 @@
 -- The three demands of README.md on one page, said of the functions of the boundary: `(c : A-check) → ..` speaks of every call of kaihveto_check, whatever it is called with, and so for
 -- the others (specs/Calls). What is cited is document 01 as definitions. proofs/Demands proves it all. Assumes nothing.
 use mathlib.Core.Path.{_≡_}
-use mathlib.Core.Logic.{_≢_}
+use mathlib.Core.Logic.{_≢_, _⊎_}
 use mathlib.Core.List.{List, []}
 use Prim.Native.Nat.{ℕ, _+_, _-_, _*_, _^_, _≤_, _<_, min, max}
-use lib.IntN.{ℤ, pos}
+use lib.IntN.{ℤ, pos, natAbs}
 use lib.ListN.{length, take, drop}
 use lib.Dec.{T}
 use Rattle.whole.specs.Whole.{nearest}
@@ -19,7 +19,7 @@ use Rattle.curve.specs.Reading.{gap-of}
 use Rattle.curve.specs.Steps.{lengths, counted, size as card-size}
 use Rattle.curve.specs.Orders.{write-order, reading-order}
 use Rattle.curve.specs.Exact.{Exact, Near}
-use Rattle.curve.specs.Demand.{Close, On-gap, numbers, Jump-within}
+use Rattle.curve.specs.Demand.{Close, On-gap, exact, numbers, Jump-within}
 use Rattle.minutes.specs.Search.{found}
 use Rattle.knots.specs.Lent.{lent}
 use Rattle.rows.specs.declared.End.{End}
@@ -36,6 +36,9 @@ use Rattle.card.specs.Promise.{Lists, into}
 use Rattle.table.specs.Promise.{table-verdict}
 use Rattle.swing.specs.declared.Swung.{Swung}
 use Rattle.swing.specs.Swing as Swing
+use Rattle.explain.specs.declared.Explained.{Explained}
+use Rattle.explain.specs.Explain.{sum as together-of}
+use Rattle.reasons.specs.Reasons.{Terms, No-parts, No-reason, Because, Fits-64}
 use Rattle.mend.specs.Changes.{restored}
 use Rattle.mending.specs.Listed.{Lists-the-holes}
 use Rattle.refit.specs.Fresh as Fresh
@@ -43,7 +46,7 @@ use Rattle.book.specs.Book.{Entry, book-bytes, size, book}
 use Rattle.book.specs.Lookup.{look-up}
 use Rattle.book_put.specs.Put as Put
 use Rattle.bookkeeping.specs.Card.{card-in}
-use Rattle.demands.specs.Calls.{A-mean, first-minute, log, A-fit, A-fit-between, A-fit-slopes, Fitting, without-ends, fitted-card, between-ends, card-between, by-slopes, sloped-card, slopes-by, curvatures-by, the-fit, worked-out, A-writing, written-kind, written-card, buffer, buffer′, write-answer, A-check, checked-bytes, A-read, read-bytes, places, places′, A-reading, reading-bytes, minute, three, A-table, table-bytes, from, lists-for, lists-for′, row, A-swing, swing-bytes, A-refit, refit-bytes, fresh-slopes, fresh-curvatures, fresh-slopes′, fresh-curvatures′, old-card, anew, fresh-card, A-mend, sheet-minutes, sheet, sheet′, change-list, change-list′, of-the-mended, mended-card, the-mending, A-book-find, the-book, the-room, the-part, A-book-put, put-book, put-book′, put-room, put-card}
+use Rattle.demands.specs.Calls.{A-mean, first-minute, log, A-fit, A-fit-between, A-fit-slopes, Fitting, without-ends, fitted-card, between-ends, card-between, by-slopes, sloped-card, slopes-by, curvatures-by, the-fit, worked-out, A-writing, written-kind, written-card, buffer, buffer′, write-answer, A-check, checked-bytes, A-read, read-bytes, places, places′, A-reading, reading-bytes, minute, three, A-table, table-bytes, from, lists-for, lists-for′, row, A-swing, swing-bytes, A-explain, explained-bytes, explained-minute, A-refit, refit-bytes, fresh-slopes, fresh-curvatures, fresh-slopes′, fresh-curvatures′, old-card, anew, fresh-card, A-mend, sheet-minutes, sheet, sheet′, change-list, change-list′, of-the-mended, mended-card, the-mending, A-book-find, the-book, the-room, the-part, A-book-put, put-book, put-book′, put-room, put-card}
 
 -- ---- 1. "Every input gets an answer: bad knots, logs, cards and minutes are refused by number and place, the numbers beside a refusal are zero, and lent memory stays untouched."
 
@@ -98,6 +101,8 @@ pub record Demand-1 : Type 0 where
   pub table : (c : A-table) → Says (table-verdict (lists-for c) (table-bytes c) (from c)) (c .answer .number) (c .answer .place)
   -- the card's
   pub swing : (c : A-swing) → Says (own (swing-bytes c)) (c .answer .number) (c .answer .place)
+  -- the card's, then 11, as of a reading
+  pub explain : (c : A-explain) → Says (reading-order (own (explained-bytes c)) (card-of (explained-bytes c)) (explained-minute c)) (c .answer .number) (c .answer .place)
   -- 3, the card's, 26; then the fit's own
   pub refit : (c : A-refit) → Says (Fresh.refit (length (fresh-slopes c)) (length (fresh-curvatures c)) (refit-bytes c)) (c .answer .number) (c .answer .place)
   -- 3, 1, 2; per knot 4, 5, 6; 17; 18; then the fit's own
@@ -114,6 +119,9 @@ pub record Demand-1 : Type 0 where
   pub reading-zeros : (c : A-reading) → c .answer .number ≢ 0 → (c .answer .value ≡ pos 0) × (c .answer .slope ≡ pos 0) × (c .answer .curvature ≡ pos 0) × (c .answer .looks ≡ 0)
   pub table-zeros : (c : A-table) → c .answer .number ≢ 0 → c .answer .count ≡ 0
   pub swing-zeros : (c : A-swing) → No-swing (c .answer)
+  -- an explanation has no parts beside a refusal, and the reason of a refusal beside 10 alone (document 02, order 9)
+  pub explain-zeros : (c : A-explain) → c .answer .number ≢ 0 → No-parts (c .answer)
+  pub explain-no-reason : (c : A-explain) → c .answer .number ≢ 10 → No-reason (c .answer)
   pub refit-zeros : (c : A-refit) → c .answer .number ≢ 0 → (c .answer .knots ≡ 0) × (c .answer .changed ≡ 0)
   pub mend-zeros : (c : A-mend) → c .answer .number ≢ 0 → c .answer .count ≡ 0
   pub book-find-zeros : (c : A-book-find) → c .answer .number ≢ 0 → (c .answer .start ≡ 0) × (c .answer .length ≡ 0)
@@ -303,6 +311,17 @@ pub record Swings (s : List ℕ) (w : Swung) : Type 0 where
   pub first-there : (r : A-reading) → reading-bytes r ≡ s → (t : ℕ) → On-gap (card-of s) (minute r) (w .knot) t → minute r < w .minute →
       beyond (card-of s) (w .knot) r < max (w .below) (w .above)
 
+-- what the value at a minute is made of (document 02, order 9)
+pub record Made-of (s : List ℕ) (m : ℕ) (e : Explained) : Type 0 where
+  -- "the gap, the minute within it"
+  pub its-gap : e .gap ≡ gap-of (card-of s .minutes) m
+  pub on-its-gap : On-gap (card-of s) m (e .gap) (e .minutes)
+  -- each part is its term of the exact curve's numerator, over the gap's denominator
+  pub terms : Terms (card-of s) (e .gap) m e
+  -- "The parts must sum to the numerator of the exact value", and what is read is that, rounded
+  pub together : together-of e ≡ exact 0 (knot (card-of s) (e .gap)) (knot (card-of s) (e .gap + 1)) (e .minutes)
+  pub read-as : (r : A-reading) → reading-bytes r ≡ s → minute r ≡ m → r .answer .value ≡ nearest (together-of e) (natAbs (e .denominator))
+
 -- of bytes, and the card that they hold
 pub record Off (s : List ℕ) : Type 0 where
   -- "at any whole minute of it"
@@ -323,6 +342,8 @@ pub record Off (s : List ℕ) : Type 0 where
       t .answer .count ≡ min (length (lists-for t .values)) (knot (card-of s) (knots (card-of s) - 1) .x + 1 - from t)
   -- and so beside the knots: the gap whose readings go furthest beyond its two knots
   pub swings : (c : A-swing) → swing-bytes c ≡ s → (c .answer .number ≡ 0) × Swings s (c .answer)
+  -- and each value is explained
+  pub explains : (c : A-explain) → explained-bytes c ≡ s → On-the-card (card-of s) (explained-minute c) → (c .answer .number ≡ 0) × Made-of s (explained-minute c) (c .answer)
   -- "third and fourth derivatives jump by no more than is allowed", as far as the card's kind asks for them
   pub jumps : (i : ℕ) → i + 2 < knots (card-of s) → (o : Order) → T (kind-by s .asks inner o) →
       Jump-within (kind-by s) o (knot (card-of s) i) (knot (card-of s) (i + 1)) (knot (card-of s) (i + 2))
@@ -331,6 +352,11 @@ pub record Off (s : List ℕ) : Type 0 where
   pub within-2 : kind-by s ≡ sloped → WithinTwo (card-of s)
   -- and the third derivative is within its allowance "at both ends too"
   pub flat-ends : kind-by s ≡ sloped → FlatEnds (card-of s)
+
+-- "A reason is named exactly when the test refuses with 10", and at the place where it does
+pub record Names-exactly (e : Explained) (r : Checked) : Type 0 where
+  pub named : r .number ≡ 10 → (e .number ≡ 10) × (e .knot ≡ r .place) × ((e .order ≡ 3) ⊎ (e .order ≡ 4))
+  pub only : e .order ≢ 0 → r .number ≡ 10
 
 -- within half a unit of an exact solution
 pub record Half-a-unit (K : Kind) (card : Card) : Type 0 where
@@ -351,6 +377,12 @@ pub record Demand-3 : Type 0 where
   pub off : (c : A-check) → c .answer .number ≡ 0 → Off (checked-bytes c)
   -- and off each card that is found in a book
   pub found-off : (c : A-book-find) → c .answer .number ≡ 0 → Off (the-part c)
+  -- a card that is refused for a jump is told why: the lowest knot with one, the derivative, its jump and its
+  -- allowance (document 02, order 9)
+  pub explain-why : (c : A-explain) → c .answer .number ≡ 10 → Because (kind-by (explained-bytes c)) (card-of (explained-bytes c)) (c .answer .place) (c .answer)
+  pub explain-names : (c : A-explain) (k : A-check) → checked-bytes k ≡ explained-bytes c → Names-exactly (c .answer) (k .answer)
+  -- and all of it fits 64 bits, the parts' sum too, in whatever order they are added
+  pub explain-fits : (c : A-explain) → Fits-64 (c .answer)
   -- "and no card within half a unit of an exact solution is refused for a jump"
   pub write-never-10 : (w : A-writing) → Half-a-unit (written-kind w) (written-card w) → write-answer w .number ≢ 10
   pub check-never-10 : (c : A-check) → Half-a-unit-held (checked-bytes c) → c .answer .number ≢ 10
@@ -358,6 +390,7 @@ pub record Demand-3 : Type 0 where
   pub reading-never-10 : (c : A-reading) → Half-a-unit-held (reading-bytes c) → c .answer .number ≢ 10
   pub table-never-10 : (c : A-table) → Half-a-unit-held (table-bytes c) → c .answer .number ≢ 10
   pub swing-never-10 : (c : A-swing) → Half-a-unit-held (swing-bytes c) → c .answer .number ≢ 10
+  pub explain-never-10 : (c : A-explain) → Half-a-unit-held (explained-bytes c) → c .answer .number ≢ 10
   pub book-find-never-10 : (c : A-book-find) → ((card : List ℕ) → card-in (the-room c) (the-book c) ≡ Answer.given card → Half-a-unit-held card) → c .answer .number ≢ 10
   pub book-put-never-10 : (c : A-book-put) → Half-a-unit-held (put-card c) → c .answer .number ≢ 10
   -- nor the numbers that a fit works out

@@ -57,6 +57,10 @@ use Rattle.jumps.proofs.allowance.Reads as allowance
 use Rattle.jumps.proofs.Spans.of.Reads as spans-of
 use Rattle.jumps.proofs.Spans.none.Reads as spans-none
 use Rattle.jumps.proofs.meet.Reads as meet
+use Rattle.lists.proofs.knot_at.Reads as knot-at
+use Rattle.lists.proofs.code_at.Reads as code-at
+use Rattle.lists.proofs.asks.Reads as asks
+use Rattle.lists.proofs.spell_at.Reads as spell-at
 use Rattle.lists.proofs.numbers_sound.Reads as numbers-sound
 use Rattle.lists.proofs.sound.Reads as sound
 use Rattle.lists.proofs.CardReading.refused.Reads as reading-refused
@@ -81,6 +85,8 @@ use Rattle.table.specs.Promise.{Columns, Tables}
 use Rattle.table.proofs.table.Reads as table
 use Rattle.swing.proofs.gap.Reads as swing-gap
 use Rattle.swing.proofs.swing.Reads as swing
+use Rattle.explain.proofs.Explained.sum.Reads as explained-sum
+use Rattle.explain.proofs.explain.Reads as explain
 use Rattle.writer.specs.declared.Written.{Written}
 use Rattle.writer.specs.Promise.{Writes}
 use Rattle.writer.proofs.write.Reads as write
@@ -208,6 +214,7 @@ use Rattle.kaihveto.proofs.kaihveto_read.Reads as c-read
 use Rattle.kaihveto.proofs.kaihveto_reading.Reads as c-reading
 use Rattle.kaihveto.proofs.kaihveto_table.Reads as c-table
 use Rattle.kaihveto.proofs.kaihveto_swing.Reads as c-swing
+use Rattle.kaihveto.proofs.kaihveto_explain.Reads as c-explain
 use Rattle.kaihveto.proofs.kaihveto_refit.Reads as c-refit
 use Rattle.kaihveto.proofs.kaihveto_book_find.Reads as c-book-find
 use Rattle.kaihveto.proofs.kaihveto_book_put.Reads as c-book-put
@@ -414,6 +421,9 @@ two-gaps = (equation _ _, equation _ _, equation _ _, equation _ _, equation _ _
 pub lists : Once numbers-sound.Post × Once sound.Post × Once reading-refused.Post × Once curve-at.Post × Once read-at.Post
 lists = (judgement _, judgement _, equation _ _, equation _ _, λ κs a x y s t p q. one-outcome (p 0 0) (q 0 0))
 
+pub knots-of-lists : Once knot-at.Post × Once code-at.Post × Once asks.Post × Once spell-at.Post
+knots-of-lists = (equation _ _, equation _ _, equation _ _, equation _ _)
+
 -- ---- cards
 
 pub card-bytes : Once head-due.Post × Once records-due.Post
@@ -445,6 +455,9 @@ card-tabled = tabling _ _ _ _
 
 pub card-swung : Once swing-gap.Post × Once swing.Post
 card-swung = (equation _ _, equation _ _)
+
+pub card-explained : Once explain.Post × Once explained-sum.Post
+card-explained = (with-more _ _ (equation _ _), equation _ _)
 
 -- the buffer is the seventh
 pub card-written : Once write.Post × Lent write.Post (λ s. now (s .1 .1 .1 .1 .1 .1 .0))
@@ -613,8 +626,8 @@ card-listed = (
 pub boundary-version : Once c-version.Post
 boundary-version = equation _ _
 
-pub boundary : Once c-mean.Post × Once c-check.Post × Once c-reading.Post × Once c-swing.Post
-boundary = (with-more _ _ (equation _ _), with-more _ _ (equation _ _), equation _ _, equation _ _)
+pub boundary : Once c-mean.Post × Once c-check.Post × Once c-reading.Post × Once c-swing.Post × Once c-explain.Post
+boundary = (with-more _ _ (equation _ _), with-more _ _ (equation _ _), equation _ _, equation _ _, equation _ _)
 
 pub boundary-fit : Once c-fit.Post × Lent c-fit.Post (λ s. now (s .1 .1 .0)) × Lent c-fit.Post (λ s. now (s .1 .1 .1 .0))
 boundary-fit = fitting _ _ _ _ _
