@@ -34,7 +34,7 @@ refusals =
     ∷ row "number given for this end is no number, or beyond 256 either way" "knot" "give the end's slope and curvature in hundredths per minute (squared), not in card units"
     ∷ row "elimination met a zero or a number that is not finite" "knot" "no input is known that does this: keep the sheet and report it"
     ∷ row "slope or curvature is beyond 1048576 card units" "knot" "the curve is too steep there: knots too close for so large a step; or a slope in the sheet is not in card units; or a number on the card was changed"
-    ∷ row "third or fourth derivative jumps by more than is allowed" "knot" "the numbers at or beside that knot do not belong together: one was changed, or an end has another code than in its fit; make the card anew; if a fit says it, keep the sheet and report it"
+    ∷ row "third or fourth derivative jumps by more than is allowed" "knot" "a number at or beside that knot was changed, or an end has another code than in its fit: kaihveto explain says how far it jumps; make the card anew; if a fit says it, keep the sheet and report it"
     ∷ row "minute is outside the card" "" "it is before the first knot or after the last; a log's knot stands in its middle, so the first log's first half and the last log's second half are not on the card"
     ∷ row "log byte is from 201 to 254" "byte" "the log is damaged at that byte; of a log in a sheet, whose place is the knot, kaihveto mean says the byte"
     ∷ row "log has no good byte" "" "the sensor was dead: leave this log out, or write a hole at the minute of its middle and mend the sheet"

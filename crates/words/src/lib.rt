@@ -108,7 +108,7 @@ pub fn put_sentence(to: &mut [u8], at: usize, table: Table, n: u32) -> usize
             give the end's slope and curvature in hundredths per minute (squared), not in card units\n\
             no input is known that does this: keep the sheet and report it\n\
             the curve is too steep there: knots too close for so large a step; or a slope in the sheet is not in card units; or a number on the card was changed\n\
-            the numbers at or beside that knot do not belong together: one was changed, or an end has another code than in its fit; make the card anew; if a fit says it, keep the sheet and report it\n\
+            a number at or beside that knot was changed, or an end has another code than in its fit: kaihveto explain says how far it jumps; make the card anew; if a fit says it, keep the sheet and report it\n\
             it is before the first knot or after the last; a log's knot stands in its middle, so the first log's first half and the last log's second half are not on the card\n\
             the log is damaged at that byte; of a log in a sheet, whose place is the knot, kaihveto mean says the byte\n\
             the sensor was dead: leave this log out, or write a hole at the minute of its middle and mend the sheet\n\

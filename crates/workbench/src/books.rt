@@ -1,11 +1,13 @@
-// A book of the rooms' cards: made, listed, and a room's card found in it or put into it. Argument 3 is the
-// book's file, argument 4 the room, argument 5 the card's file, arguments 6 and 7 what is cared for.
+// A book of the rooms' cards: made, listed, and a room's card found in it, explained, or put into it. Argument
+// 3 is the book's file, argument 4 the room, argument 5 the card's file, arguments 6 and 7 what is cared for.
 use crate::arguments::Asked;
 use crate::line::Line;
 use crate::swings::Care;
 use answer::Judged;
+use book::Slot;
 use book::Step;
 use book::Used;
+use book::Walked;
 use decode::Card;
 use opened::Opened;
 use text::Sheet;
@@ -109,6 +111,32 @@ pub(crate) fn look(file: &[u8], bytes: &[u8], room: u16) -> u8 {
         return crate::tell::refused_in(file, room, spot.number, spot.place);
     }
     crate::tell::DONE
+}
+
+// The card in a room's record. No record stands or reaches beyond the limit of a book.
+fn held(bytes: &[u8], slot: Slot) -> &[u8] {
+    let at = slot.at;
+    let size = slot.size;
+    if Used::MOST < at {
+        return crate::rooms::part(bytes, 0, 0);
+    }
+    if Used::MOST < size {
+        return crate::rooms::part(bytes, 0, 0);
+    }
+    crate::rooms::part(bytes, at + 6, at + size)
+}
+
+// A card is explained whether it is accepted or not; the book's refusals and 20 are told as above.
+pub(crate) fn explain(name: &[u8], file: &[u8], bytes: &[u8], room: u16, minute: u16) -> u8 {
+    match book::walk(bytes, room) {
+        Walked::Refused(number, place) => crate::tell::refused(file, number, place),
+        Walked::Sound(slot) => {
+            if slot.size == 0 {
+                return crate::tell::refused_in(file, room, ABSENT, 0);
+            }
+            crate::explained::print(name, held(bytes, slot), minute)
+        }
+    }
 }
 
 // A card that goes to standard output goes alone.

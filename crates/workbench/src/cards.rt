@@ -1,5 +1,5 @@
-// What is done with a card, a file's or a room's in a book: list, check, at, table, points, and put into a
-// book.
+// What is done with a card, a file's or a room's in a book: list, check, at, explain, table, points, and put
+// into a book.
 use crate::arguments::Asked;
 use crate::rooms::Told;
 use crate::swings::Care;
@@ -9,11 +9,13 @@ use decode::Card;
 use knots::Kind;
 use opened::Opened;
 
-// What is asked; `At` of how many arguments there are, `Table` every how many minutes, `Put` for which room.
+// What is asked; `At` of how many arguments there are, `Explain` at which minute, `Table` every how many
+// minutes, `Put` for which room.
 enum Job {
     List,
     Check(Care),
     At(usize),
+    Explain(u16),
     Table(u16),
     Points,
     Put(u16, Care),
@@ -101,6 +103,7 @@ fn with(name: &[u8], bytes: &[u8], job: Job) -> u8 {
     match job {
         Job::List => list(name, bytes),
         Job::At(count) => at(name, bytes, count),
+        Job::Explain(minute) => crate::explained::print(name, bytes, minute),
         Job::Put(room, care) => crate::books::put(name, bytes, room, care),
         _ => opened(name, bytes, job),
     }
@@ -114,6 +117,9 @@ fn with_room(name: &[u8], colon: usize, room: u16, job: Job) -> u8 {
         return crate::tell::FAILED;
     }
     let n = io::count(got, &bytes);
+    if let Job::Explain(minute) = job {
+        return crate::books::explain(name, file, &bytes[..n], room, minute);
+    }
     let looked = crate::books::look(file, &bytes[..n], room);
     if looked != crate::tell::DONE {
         return looked;
@@ -202,6 +208,13 @@ fn minutes(count: usize) -> u8 {
     crate::tell::FAILED
 }
 
+fn explain() -> u8 {
+    match crate::arguments::number(3) {
+        Asked::Nothing => crate::tell::FAILED,
+        Asked::Whole(minute) => with_argument(2, Job::Explain(minute)),
+    }
+}
+
 pub(crate) fn run(command: &[u8], count: usize) -> u8 {
     if crate::arguments::same(command, b"list") {
         return with_argument(2, Job::List);
@@ -211,6 +224,9 @@ pub(crate) fn run(command: &[u8], count: usize) -> u8 {
     }
     if crate::arguments::same(command, b"at") {
         return minutes(count);
+    }
+    if crate::arguments::same(command, b"explain") {
+        return explain();
     }
     if crate::arguments::same(command, b"table") {
         return table(count);

@@ -44,12 +44,40 @@ impl Line {
         self.words(&digits[..k])
     }
 
-    pub(crate) fn number(self, number: i32) -> Line {
-        let magnitude = decimal::magnitude(wide(number));
+    pub(crate) fn long(self, number: i64) -> Line {
+        let magnitude = decimal::magnitude(number);
         if number < 0 {
             return self.byte(b'-').count(magnitude);
         }
         self.count(magnitude)
+    }
+
+    pub(crate) fn number(self, number: i32) -> Line {
+        self.long(wide(number))
+    }
+
+    // The last digit of a number.
+    pub(crate) fn digit(self, number: u64) -> Line {
+        self.byte(48 + (number % 10) as u8)
+    }
+
+    // Blanks up to a column.
+    fn blanks(self, column: usize) -> Line {
+        let mut line = self;
+        let mut i = self.length;
+        while i < column {
+            line = line.byte(b' ');
+            i += 1;
+        }
+        line
+    }
+
+    // What stands in another line, so that it ends at a column.
+    pub(crate) fn right(self, field: Line, column: usize) -> Line {
+        let bytes = field.bytes;
+        let n = field.length;
+        let from = if n < column { column - n } else { 0 };
+        self.blanks(from).words(crate::tell::front(&bytes, n))
     }
 
     // Behind a name, to standard error.

@@ -124,7 +124,8 @@ impl Place {
     }
 }
 
-fn minute_at(minutes: &[u16; Kind::MOST], knot: usize) -> u16 {
+// Of a knot; 0 where there is none.
+pub(crate) fn minute_at(minutes: &[u16; Kind::MOST], knot: usize) -> u16 {
     if knot < Kind::MOST {
         return minutes[knot];
     }
