@@ -37,7 +37,7 @@ use Rattle.table.specs.Promise.{table-verdict}
 use Rattle.swing.specs.declared.Swung.{Swung}
 use Rattle.swing.specs.Swing as Swing
 use Rattle.explain.specs.declared.Explained.{Explained}
-use Rattle.explain.specs.Explain.{sum as together-of}
+use Rattle.explain.specs.Explain.{sum as parts-sum}
 use Rattle.reasons.specs.Reasons.{Terms, No-parts, No-reason, Because, Fits-64}
 use Rattle.mend.specs.Changes.{restored}
 use Rattle.mending.specs.Listed.{Lists-the-holes}
@@ -319,8 +319,8 @@ pub record Made-of (s : List ℕ) (m : ℕ) (e : Explained) : Type 0 where
   -- each part is its term of the exact curve's numerator, over the gap's denominator
   pub terms : Terms (card-of s) (e .gap) m e
   -- "The parts must sum to the numerator of the exact value", and what is read is that, rounded
-  pub together : together-of e ≡ exact 0 (knot (card-of s) (e .gap)) (knot (card-of s) (e .gap + 1)) (e .minutes)
-  pub read-as : (r : A-reading) → reading-bytes r ≡ s → minute r ≡ m → r .answer .value ≡ nearest (together-of e) (natAbs (e .denominator))
+  pub together : parts-sum e ≡ exact 0 (knot (card-of s) (e .gap)) (knot (card-of s) (e .gap + 1)) (e .minutes)
+  pub read-as : (r : A-reading) → reading-bytes r ≡ s → minute r ≡ m → r .answer .value ≡ nearest (parts-sum e) (natAbs (e .denominator))
 
 -- of bytes, and the card that they hold
 pub record Off (s : List ℕ) : Type 0 where
