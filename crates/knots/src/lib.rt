@@ -122,7 +122,7 @@ pub fn room(needed: usize, lent: usize) -> answer::Judged
 // ---- 4, 5, 6
 
 // Beyond a limit, on either side.
-fn beyond(limit: i32, z: i32) -> bool
+pub fn beyond(limit: i32, z: i32) -> bool
     requires { ⌜ pos 0 ≤ℤ limit ⌝ }
     ensures { λ r. ⌜ r ≡ beyond (natAbs limit) z ⌝ }
 {

@@ -21,7 +21,7 @@ skipped (b ∷ s) = go (blank b) refl (skipped s)
     go true e h = rw e h
     go false e h = refl
 
-has-bytes : (s : List ℕ) → 0 < length (past Word s) → 0 < stop Blank (past Word s)
+pub has-bytes : (s : List ℕ) → 0 < length (past Word s) → 0 < stop Blank (past Word s)
 unfolding marks stop
 has-bytes [] l = absurd (omega arith)
 has-bytes (b ∷ s) l = go (blank b) refl l (has-bytes s)

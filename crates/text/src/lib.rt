@@ -163,7 +163,8 @@ fn blamed_word(text: &[u8]) -> &[u8]
     blamed_three(minute, word, split::until(Mark::Blank, third))
 }
 
-fn bare_line(text: &[u8], line: u32) -> &[u8]
+// What of the line of that number, from 1, is no comment; nothing where there is none.
+pub fn bare_line(text: &[u8], line: u32) -> &[u8]
     ensures { λ r. ⌜ now r ≡ bare-line (now (text .entry)) line ⌝ }
 {
     if line == 0 {
