@@ -1,0 +1,2 @@
+pub mod Preheat
+pub mod Demand
