@@ -20,6 +20,9 @@
 
    A book holds the cards of a hall's rooms, each behind the number of its room (0 to 65,535).
 
+   The pre-heater has no card but a plain table: 3 to 20 values, whole hundredths from -20,000 to 20,000, one
+   equal step apart.
+
    Lists. A list is passed as a pointer and then its length, counted in elements. A list that a function may write to must
    overlap no other list of the same call, so a card that goes into a book must not lie in that book; lists that are only read
    may overlap one another. A pointer must be aligned for its type. A list of length 0 has no element to point to: pass any
@@ -28,8 +31,8 @@
    Answers. Every answer starts with a number and a place. Number 0 is acceptance, with place 0. Any other
    number is a refusal: the fields behind number and place are then 0, and nothing has been written to any
    list. There is one exception: beside a 10, kaihveto_explain has the reason for it in its last four fields.
-   Knots and bytes count from 0. Every input is allowed: what is not sound is refused, and a call always
-   returns.
+   Knots, values and bytes count from 0. Every input is allowed: what is not sound is refused, and a call
+   always returns.
 
    Calls. kaihveto.c is C like any other: its functions are called as the compiler calls functions. Those of the archive follow the
    System V calling convention for x86-64, which C and C++ compilers for Linux use.
@@ -51,10 +54,11 @@
    -ffp-contract=off is never wrong. The other functions have no floating-point operation and answer alike in
    every mode.
 
-   Stack. Bytes that a call needs at 64 knots, in a book at fourteen rooms with as many, measured and rounded up
-   (docs/FIGURES.md, "Stack"); no proof bounds them. kaihveto.c was measured by GCC at -Os and -O2 on x86-64, Arm 64, Arm 32, RISC-V 64
-   and Cortex-M4, and by clang on x86-64; tests/c/stack.c measures it on others. The first call may need more, where a loader binds
-   memcpy and memset in it.
+   Stack. Bytes that a call needs at 64 knots, in a book at fourteen rooms with as many, in the pre-heater at
+   20 values, measured and rounded up (docs/FIGURES.md, "Stack"); no proof bounds them. kaihveto.c was
+   measured by GCC at -Os and -O2 on x86-64, Arm 64, Arm 32, RISC-V 64 and Cortex-M4, and by clang on x86-64;
+   tests/c/stack.c measures it on others. The first call may need more, where a loader binds memcpy and memset
+   in it.
 
                            kaihveto.c   archive                 kaihveto.c   archive
      kaihveto_mean                256       128   read, swing        5,120     4,096
@@ -62,14 +66,15 @@
      kaihveto_check             4,096     3,072   table              6,144     4,096
      kaihveto_book_find         4,096     3,072   fit, fit_ends     13,312    13,312
      kaihveto_book_put          4,096     3,072   fit_slopes        12,288    13,312
-                                                  refit, mend       16,384    15,360
+     kaihveto_preheat             512       512   refit, mend       16,384    15,360
 
    Time. A reading tests the whole card every time and only then looks up the minute, and so does an
    explanation: some 1 to 2 microseconds at 64 knots (docs/FIGURES.md, "Speed"). A controller that reads once
    a minute needs to keep nothing but the card's bytes. A table tests the card once and then reads minute
    after minute, and so does the swing, through the whole card. A controller that keeps the hall's book
    instead finds its room's card with kaihveto_book_find, which goes over the book's records and tests that
-   one card, and hands book + start and length to kaihveto_reading. */
+   one card, and hands book + start and length to kaihveto_reading. The pre-heater's value is worked out from
+   its table anew in each call. */
 
 #ifndef KAIHVETO_H
 #define KAIHVETO_H
@@ -86,6 +91,8 @@ extern "C" {
    input gets another answer. MINOR rises where something is added and all else stays. kaihveto_version() gives the library's own
    version, 65536 times MAJOR plus MINOR: where it is not KAIHVETO_VERSION, the library and this header are of two states of the
    sources, and no other function is to be called.
+
+   6.2: kaihveto_preheat is added, with the refusals 24 and 25.
 
    6.1: kaihveto_explain is added.
 
@@ -121,7 +128,7 @@ extern "C" {
    2.0: kaihveto_mean answers the minute in the log's middle, where 1.2 answered the log's first, and has the refusal 19. Cards
    that were made with the first minutes lead the rooms by half a log, and are to be made anew. */
 #define KAIHVETO_VERSION_MAJOR 6
-#define KAIHVETO_VERSION_MINOR 1
+#define KAIHVETO_VERSION_MINOR 2
 #define KAIHVETO_VERSION (65536u * KAIHVETO_VERSION_MAJOR + KAIHVETO_VERSION_MINOR)
 
 uint32_t kaihveto_version(void);
@@ -169,21 +176,29 @@ uint32_t kaihveto_version(void);
 #define KAIHVETO_BOOK_ROOM_BYTES(n) (6 + KAIHVETO_CARD_BYTES(n))
 #define KAIHVETO_EMPTY_BOOK {0, 0, 3, 0}
 
+/* The fewest and the most values of the pre-heater's table, and the fewest and the most parts to one of its
+   steps. A value has an ordinate's limit. */
+#define KAIHVETO_PREHEAT_FEWEST_VALUES 3
+#define KAIHVETO_PREHEAT_MOST_VALUES 20
+#define KAIHVETO_PREHEAT_FEWEST_PARTS 2
+#define KAIHVETO_PREHEAT_MOST_PARTS 60
+
 /* The numbers of refusal. The place is 0 where none is named. */
 enum kaihveto_number {
     KAIHVETO_ACCEPTED = 0,             /* accepted */
-    KAIHVETO_TOO_FEW_KNOTS = 1,        /* fewer than 3 knots */
+    KAIHVETO_TOO_FEW_KNOTS = 1,        /* fewer than 3 knots, or values of the pre-heater */
     KAIHVETO_TOO_MANY_KNOTS = 2,       /* more than 64 knots */
     KAIHVETO_LENGTHS_DIFFER = 3,       /* the lists that a call lends differ in length */
     KAIHVETO_MINUTE_NOT_RISING = 4,    /* minute not above the one before; place: the knot */
     KAIHVETO_GAP_TOO_WIDE = 5,         /* gap over 60 minutes; place: its right knot */
-    KAIHVETO_ORDINATE_BEYOND = 6,      /* ordinate beyond 20,000 either way; place: the knot */
+    KAIHVETO_ORDINATE_BEYOND = 6,      /* ordinate, or the pre-heater's value, beyond 20,000 either way;
+                                          place: the knot or the value */
     KAIHVETO_GIVEN_NUMBER_BEYOND = 7,  /* given end number NaN, infinite or beyond 256 either way; place: the end knot */
     KAIHVETO_NO_SOLUTION = 8,          /* the elimination met a divisor of 0 or a number not finite; place: the knot */
     KAIHVETO_CARD_NUMBER_BEYOND = 9,   /* slope or curvature beyond 1,048,576 either way; place: the knot */
     KAIHVETO_JUMP = 10,                /* third or fourth derivative jumps by more than is allowed, the fourth not where slopes
                                           are given; place: the knot */
-    KAIHVETO_MINUTE_OUTSIDE = 11,      /* minute outside the card */
+    KAIHVETO_MINUTE_OUTSIDE = 11,      /* minute outside the card, or count behind the last value */
     KAIHVETO_LOG_BYTE = 12,            /* log byte 201 to 254; place: the byte */
     KAIHVETO_NO_GOOD_BYTE = 13,        /* no good byte in the log */
     KAIHVETO_RECORD = 14,              /* record cut short, of wrong kind or length, or ending past a book's most bytes, or bytes
@@ -197,6 +212,8 @@ enum kaihveto_number {
     KAIHVETO_BOOK_FULL = 21,           /* the book would be over 16,384 bytes or over its buffer */
     KAIHVETO_ROOM_NOT_RISING = 22,     /* room not above the one before; place: its record's offset in the book */
     KAIHVETO_TOO_FEW_GOOD_BYTES = 23,  /* good bytes in the log, but fewer than half of its bytes */
+    KAIHVETO_TOO_MANY_VALUES = 24,     /* more than 20 values of the pre-heater */
+    KAIHVETO_PART_COUNT = 25,          /* not 2 to 60 parts to a step of the pre-heater */
     KAIHVETO_NO_ROOM = 26              /* buffer under 14 + 16n bytes, or lists under n places */
 };
 
@@ -406,6 +423,28 @@ typedef struct {
 } kaihveto_swing_answer;
 
 kaihveto_swing_answer kaihveto_swing(const uint8_t *card, size_t card_length);
+
+/* What the pre-heater is to have between the values of its table, and at them. The values are hundredths and
+   stand at equal steps, however long the plant's step is: minutes play no part here, nor do cards. A step is
+   cut into equal parts, 2 to 60 of them, and count says how many parts behind the first value the asked value
+   lies: with 10 parts to a step, count 25 is half a step behind the third value. A count that is a whole
+   number of steps gives the table's own value there; the last value stands at parts * (values_length - 1).
+
+   Between the values it is read off the natural cubic: one cubic on each step, through all values, whose
+   slope and second derivative go on without a jump from step to step, and whose second derivative is zero at
+   the first value and at the last. There is exactly one such curve. The answer has its exact value, in
+   hundredths, rounded to nearest, ties to even. It may lie beyond the table's own values, where the curve
+   swings, and is within 60,000 either way.
+   Refusals, in this order: 1; 24; 6 value by value; 25; 11 where count lies behind the last value. Nothing is
+   written. */
+typedef struct {
+    uint32_t number;
+    uint32_t place;
+    int32_t value;
+} kaihveto_preheat_answer;
+
+kaihveto_preheat_answer kaihveto_preheat(const int16_t *values, size_t values_length,
+                                         uint16_t parts, uint16_t count);
 
 /* Fits a card's own knots anew, into two lists of one length: on acceptance the first n places of each, n being the card's
    number of knots, and no other. The ends have the card's codes, and a number that a code gives is the card's own there. The

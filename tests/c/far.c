@@ -235,6 +235,14 @@ int main(void) {
             drop(a);
             break;
         }
+        case 'n': {
+            a = list(2);
+            uint64_t parts = number(), count = number();
+            kaihveto_preheat_answer r = kaihveto_preheat(a.first, a.length, (uint16_t)parts, (uint16_t)count);
+            give_answer(&r, sizeof r);
+            drop(a);
+            break;
+        }
         case 'a': {
             e = list(1), c = list(4), d = list(4);
             kaihveto_refit_answer r = kaihveto_refit(e.first, e.length, c.first, c.length, d.first, d.length);

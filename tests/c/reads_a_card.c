@@ -3,8 +3,9 @@
    reads it back, takes readings off it and explains one, and explains why the card is refused that has one
    curvature three units off; then fits document 000's Table 4 to its slopes and writes, checks, reads and
    changes that card; then a log's mean and a log with too few good bytes, a sheet with two holes
-   mended and put back, and a book of three rooms with readings off the cards that it holds for two of them.
-   What it prints is held against reads_a_card.expected. */
+   mended and put back, a book of three rooms with readings off the cards that it holds for two of them, and
+   the pre-heater's values between those of document 001's Table 2, times ten. What it prints is held against
+   reads_a_card.expected. */
 
 #include <stdio.h>
 
@@ -26,6 +27,11 @@ static void print_explained(const char *name, kaihveto_explain_answer told)
            (long long)told.left_curvature, (long long)told.right_curvature, (long long)told.denominator);
     printf("knot %u, order %u, jump %lld, allowance %lld\n", told.knot, told.order, (long long)told.jump,
            (long long)told.allowance);
+}
+
+static void print_preheat(const char *name, kaihveto_preheat_answer heat)
+{
+    printf("%s: %u at %u, value %d\n", name, heat.number, heat.place, heat.value);
 }
 
 static void print_card(const char *name, kaihveto_card_answer card)
@@ -194,5 +200,19 @@ int main(void)
     printf("put in for room 4, a byte short: %u at %u, %u bytes\n", put.number, put.place, put.bytes);
     put = kaihveto_book_put(book, sizeof book, 9, line, sizeof line);
     printf("put in for room 9, a shorter card: %u at %u, %u bytes\n", put.number, put.place, put.bytes);
+
+    int16_t heats[10] = {2440, 2210, 2080, 2080, 2115, 2160, 2190, 2210, 2215, 2200};
+    printf("pre-heater:");
+    for (uint16_t count = 0; count <= 90; count += 5)
+        printf(" %d", kaihveto_preheat(heats, 10, 10, count).value);
+    printf("\n");
+    print_preheat("pre-heater, 1 of 10 parts", kaihveto_preheat(heats, 10, 10, 1));
+    print_preheat("pre-heater, 25 of 10 parts", kaihveto_preheat(heats, 10, 10, 25));
+    print_preheat("pre-heater, the last value", kaihveto_preheat(heats, 10, 60, 540));
+    print_preheat("pre-heater, a part behind it", kaihveto_preheat(heats, 10, 60, 541));
+    print_preheat("pre-heater, one part to a step", kaihveto_preheat(heats, 10, 1, 541));
+    print_preheat("pre-heater, two values", kaihveto_preheat(heats, 2, 10, 0));
+    heats[4] = -KAIHVETO_ORDINATE_LIMIT - 1;
+    print_preheat("pre-heater, a value beyond its limit", kaihveto_preheat(heats, 10, 1, 0));
     return 0;
 }

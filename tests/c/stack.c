@@ -1,5 +1,7 @@
-/* How many bytes of stack each function takes at a card of 64 knots, the book's at fourteen rooms with such cards: the stack below a call is painted, the call is made, and what
-   it painted over is counted. The first call of each is not measured, since the loader binds symbols in it. Ends with 1 where a call is refused or takes 32 KiB. */
+/* How many bytes of stack each function takes at a card of 64 knots, the book's at fourteen rooms with such
+   cards, the pre-heater's at 20 values: the stack below a call is painted, the call is made, and what it
+   painted over is counted. The first call of each is not measured, since the loader binds symbols in it. Ends
+   with 1 where a call is refused or takes 32 KiB. */
 #include "kaihveto.h"
 
 #include <stdio.h>
@@ -10,6 +12,7 @@ static uint16_t minutes[KNOTS];
 static int16_t ordinates[KNOTS];
 static int32_t slopes[KNOTS], curvatures[KNOTS];
 static int32_t table_values[MINUTES], table_slopes[MINUTES], table_curvatures[MINUTES];
+static int16_t heats[KAIHVETO_PREHEAT_MOST_VALUES];
 static kaihveto_change changes[KNOTS];
 static uint8_t card[KAIHVETO_CARD_BYTES(KNOTS)], sloped_card[KAIHVETO_CARD_BYTES(KNOTS)], short_card[KAIHVETO_CARD_BYTES(3)], log_bytes[60];
 static uint8_t book[KAIHVETO_BOOK_MOST_BYTES] = KAIHVETO_EMPTY_BOOK;
@@ -83,6 +86,12 @@ static uint32_t mend(void) {
     return r.count != 0 ? r.number : 1;
 }
 
+/* In the middle of the middle step. */
+static uint32_t preheat(void) {
+    kaihveto_preheat_answer r = kaihveto_preheat(heats, KAIHVETO_PREHEAT_MOST_VALUES, KAIHVETO_PREHEAT_MOST_PARTS, 570);
+    return r.value != 0 ? r.number : 1;
+}
+
 static uint32_t book_find(void) {
     kaihveto_book_find_answer r = kaihveto_book_find(book, sizeof book, ROOMS);
     return r.length == sizeof card ? r.number : 1;
@@ -121,7 +130,10 @@ int main(void) {
         minutes[i] = (uint16_t)(GAP * i);
         ordinates[i] = (int16_t)(4000 + 100 * (i % 7) - 30 * (i % 4));
     }
+    for (int i = 0; i < KAIHVETO_PREHEAT_MOST_VALUES; i++)
+        heats[i] = (int16_t)(i % 2 == 0 ? KAIHVETO_ORDINATE_LIMIT : i - KAIHVETO_ORDINATE_LIMIT);
     int good = line("mean", mean);
+    good &= line("preheat", preheat);
     good &= line("fit", fit);
     good &= line("fit_ends", fit_ends);
     good &= line("write", write_card);

@@ -18,6 +18,7 @@ ghost use Rattle.card.specs.Promise.{lists, Reads};
 ghost use Rattle.table.specs.Promise.{columns, Tables};
 ghost use Rattle.swing.specs.Swing.{swung};
 ghost use Rattle.explain.specs.Explain.{explain};
+ghost use Rattle.preheat.specs.Preheat.{preheat, heated};
 ghost use Rattle.writer.specs.Promise.{Writes};
 ghost use Rattle.refit.specs.Promise.{Refits};
 ghost use Rattle.holes.specs.Hole.{mended};
@@ -32,12 +33,12 @@ ghost use Rattle.kaihveto.specs.Version.{version};
 // The boundary's version, as include/kaihveto.h names it.
 const MAJOR: u32 = 6;
 
-const MINOR: u32 = 1;
+const MINOR: u32 = 2;
 
 // The version in one number, so that a program can see that the library and the header which it was compiled with belong together.
 #[no_mangle]
 pub extern "C" fn kaihveto_version() -> u32
-    ensures { λ r. ⌜ r ≡ version 6 1 ⌝ }
+    ensures { λ r. ⌜ r ≡ version 6 2 ⌝ }
 {
     65536 * MAJOR + MINOR
 }
@@ -222,6 +223,15 @@ pub extern "C" fn kaihveto_explain(card: &[u8], minute: u16) -> explain::Explain
     ensures { λ r. ⌜ r ≡ explain (now (card .entry)) minute ⌝ }
 {
     explain::explain(card, minute)
+}
+
+// The pre-heater's set value, of a table of equal steps, at a whole count of parts from its first value: 1, 24, 6;
+// 25; 11.
+#[no_mangle]
+pub extern "C" fn kaihveto_preheat(values: &[i16], parts: u16, count: u16) -> preheat::Heated
+    ensures { λ r. ⌜ r ≡ heated (preheat (now (values .entry)) parts count) ⌝ }
+{
+    preheat::value(values, parts, count)
 }
 
 // The slopes and curvatures of a card's own knots fitted anew, at the front of two lists, and how many of the card's are others: 3, the card's, 26; 8; 9; 10.
