@@ -31,6 +31,10 @@ refused-words number = worded "refused " number ++ spelled ": " ++ sentence Refu
 unfoldable pub refused-line : (number place line : ℕ) → List ℕ
 refused-line number place line = at-line line ++ at-place number place line ++ refused-words number
 
+-- ":4: value 2: refused 6: ..", of a pre-heater's table
+unfoldable pub value-line : (number place line : ℕ) → List ℕ
+value-line number place line = at-line line ++ worded "value " place ++ spelled ": " ++ refused-words number
+
 abbrev pub quoted : List ℕ → List ℕ
 quoted word = spelled "'" ++ word ++ spelled "'"
 

@@ -3,7 +3,7 @@
 use Prim.Native.Nat.{ℕ}
 use Prim.Native.String.{String}
 use mathlib.Core.List.{List, [], _∷_, _++_}
-use lib.ListN.{getD, replicate}
+use lib.ListN.{getD}
 use Rattle.decimal.specs.Decimal.{spelled}
 use Rattle.words.specs.declared.Table.{Table}
 use Rattle.words.specs.declared.Table.the-variants.{Refusals, Places, Remedies, Wrongs}
@@ -21,21 +21,21 @@ row what place remedy = record { what = what; place = place; remedy = remedy }
 abbrev pub no-refusal : Row
 no-refusal = row "" "" ""
 
--- 0 to 23; no refusal has a number 24 or 25; 26
+-- 0 to 26
 abbrev pub refusals : List Row
 refusals =
-    (no-refusal
-    ∷ row "fewer than 3 knots" "" "give more logs"
+    no-refusal
+    ∷ row "fewer than 3 knots or values" "" "give more logs; a pre-heater's table has 3 to 20 values"
     ∷ row "more than 64 knots" "" "leave knots out, or make two cards"
     ∷ row "lent lists differ in length" "" "the program that calls is wrong: it has to lend lists of one length"
     ∷ row "minute is not above the one before" "knot" "two logs have the same middle, or the sheet is out of order: look at that knot"
     ∷ row "more than 60 minutes lie between this knot and the one before" "knot" "a log is missing before that knot"
-    ∷ row "ordinate is beyond 20000 hundredths either way" "knot" "look at that knot's number: 100 % is 10000"
+    ∷ row "ordinate or value is beyond 20000 hundredths either way" "knot" "look at that number: 100 % is 10000"
     ∷ row "number given for this end is no number, or beyond 256 either way" "knot" "give the end's slope and curvature in hundredths per minute (squared), not in card units"
     ∷ row "elimination met a zero or a number that is not finite" "knot" "no input is known that does this: keep the sheet and report it"
     ∷ row "slope or curvature is beyond 1048576 card units" "knot" "the curve is too steep there: knots too close for so large a step; or a slope in the sheet is not in card units; or a number on the card was changed"
     ∷ row "third or fourth derivative jumps by more than is allowed" "knot" "a number at or beside that knot was changed, or an end has another code than in its fit: kaihveto explain says how far it jumps; make the card anew; if a fit says it, keep the sheet and report it"
-    ∷ row "minute is outside the card" "" "it is before the first knot or after the last; a log's knot stands in its middle, so the first log's first half and the last log's second half are not on the card"
+    ∷ row "minute is outside the card" "" "it is before the first knot or after the last, or past a table's last value; a log's knot stands in its middle, so the first log's first half and the last log's second half are not on the card"
     ∷ row "log byte is from 201 to 254" "byte" "the log is damaged at that byte; of a log in a sheet, whose place is the knot, kaihveto mean says the byte"
     ∷ row "log has no good byte" "" "the sensor was dead: leave this log out, or write a hole at the minute of its middle and mend the sheet"
     ∷ row "record is cut short, of the wrong kind or length, or bytes follow the end" "byte" "the file is damaged there, or is another kind of file, or a book of more than 16384 bytes; of a card in a book the bytes count from the card's first"
@@ -48,9 +48,10 @@ refusals =
     ∷ row "book would be over 16384 bytes, or over the lent buffer" "" "put the card into a second book, or make it with fewer knots; a program that calls has to lend as many bytes as the book then has"
     ∷ row "room number is not above the one before" "byte" "the record there is out of order, or its room is in the book already: make the book anew from the rooms' cards"
     ∷ row "log has good bytes, but fewer than half" "" "the sensor was out for most of that time: cut the log to minutes of which half are good, leave it out, or write a hole at the minute of its middle and mend the sheet"
-    ∷ [])
-    ++ replicate 2 no-refusal
-    ++ (row "lent buffer or lists are too short" "" "lend 14 + 16n bytes, or n places" ∷ [])
+    ∷ row "more than 20 values" "" "a pre-heater's table has 3 to 20 values: leave some out, or make two tables"
+    ∷ row "step has not 2 to 60 parts" "" "ask for 2 to 60 parts to a step of the pre-heater's table"
+    ∷ row "lent buffer or lists are too short" "" "lend 14 + 16n bytes, or n places"
+    ∷ []
 
 -- what is wrong with a word of a sheet's text, or with the whole of it
 abbrev pub wrongs : List String
@@ -58,10 +59,10 @@ wrongs =
     ""
     ∷ "is not a whole number; hundredths are whole: write 550 for 5.5 %"
     ∷ "has a zero or a sign too many: write 50 for 050, and 0 for -0"
-    ∷ "is too large: a minute is at most 65535, an ordinate from -32768 to 32767"
+    ∷ "is too large: a minute is at most 65535, an ordinate or value from -32768 to 32767"
     ∷ "stands alone: a knot is a minute and an ordinate, or a minute and @FILE for a log"
     ∷ "is one word too many: a knot is a minute, an ordinate or @FILE for a log, whose name has no blank here, and behind that its slope if it has one"
-    ∷ "is longer than 65535 bytes: no sheet is"
+    ∷ "is longer than 65535 bytes: no sheet or table is"
     ∷ "is a hole: kaihveto mend fills it, in a sheet without slopes"
     ∷ "asks for the name of a log's file: write MINUTE @FILE"
     ∷ "is no slope: behind an ordinate or @FILE, whose name has no blank here, stands nothing or a whole number of card units, with no zero in front"

@@ -1,4 +1,4 @@
-// What is wrong, in plain words: a sentence for each number of refusal with what to do about it, a sentence for each thing that can be wrong in the text of a sheet,
+// What is wrong, in plain words: a sentence for each number of refusal with what to do about it, a sentence for each thing that can be wrong in the text of a sheet or a table,
 // and the lines of standard error that are made of them, or say which knot was mended.
 ghost use mathlib.Core.Path.{_≡_};
 ghost use mathlib.Core.List.{[]};
@@ -7,7 +7,7 @@ ghost use lib.ListN.{length, getD};
 ghost use Rattle.decimal.specs.Put.{Put};
 ghost use Rattle.split.specs.Parts.{lines};
 ghost use Rattle.words.specs.Sentences.{sentence, longest};
-ghost use Rattle.words.specs.Said.{at-line, counts, at-place, refused-words, refused-line, quoted, shown, wrong-line, mended-line};
+ghost use Rattle.words.specs.Said.{at-line, counts, at-place, refused-words, refused-line, value-line, quoted, shown, wrong-line, mended-line};
 
 // What a sentence is looked up in.
 pub enum Table {
@@ -35,12 +35,12 @@ pub fn put_sentence(to: &mut [u8], at: usize, table: Table, n: u32) -> usize
             to,
             at,
             b"\n\
-            fewer than 3 knots\n\
+            fewer than 3 knots or values\n\
             more than 64 knots\n\
             lent lists differ in length\n\
             minute is not above the one before\n\
             more than 60 minutes lie between this knot and the one before\n\
-            ordinate is beyond 20000 hundredths either way\n\
+            ordinate or value is beyond 20000 hundredths either way\n\
             number given for this end is no number, or beyond 256 either way\n\
             elimination met a zero or a number that is not finite\n\
             slope or curvature is beyond 1048576 card units\n\
@@ -58,8 +58,8 @@ pub fn put_sentence(to: &mut [u8], at: usize, table: Table, n: u32) -> usize
             book would be over 16384 bytes, or over the lent buffer\n\
             room number is not above the one before\n\
             log has good bytes, but fewer than half\n\
-            \n\
-            \n\
+            more than 20 values\n\
+            step has not 2 to 60 parts\n\
             lent buffer or lists are too short\n",
             n,
         ),
@@ -99,17 +99,17 @@ pub fn put_sentence(to: &mut [u8], at: usize, table: Table, n: u32) -> usize
             to,
             at,
             b"\n\
-            give more logs\n\
+            give more logs; a pre-heater's table has 3 to 20 values\n\
             leave knots out, or make two cards\n\
             the program that calls is wrong: it has to lend lists of one length\n\
             two logs have the same middle, or the sheet is out of order: look at that knot\n\
             a log is missing before that knot\n\
-            look at that knot's number: 100 % is 10000\n\
+            look at that number: 100 % is 10000\n\
             give the end's slope and curvature in hundredths per minute (squared), not in card units\n\
             no input is known that does this: keep the sheet and report it\n\
             the curve is too steep there: knots too close for so large a step; or a slope in the sheet is not in card units; or a number on the card was changed\n\
             a number at or beside that knot was changed, or an end has another code than in its fit: kaihveto explain says how far it jumps; make the card anew; if a fit says it, keep the sheet and report it\n\
-            it is before the first knot or after the last; a log's knot stands in its middle, so the first log's first half and the last log's second half are not on the card\n\
+            it is before the first knot or after the last, or past a table's last value; a log's knot stands in its middle, so the first log's first half and the last log's second half are not on the card\n\
             the log is damaged at that byte; of a log in a sheet, whose place is the knot, kaihveto mean says the byte\n\
             the sensor was dead: leave this log out, or write a hole at the minute of its middle and mend the sheet\n\
             the file is damaged there, or is another kind of file, or a book of more than 16384 bytes; of a card in a book the bytes count from the card's first\n\
@@ -122,8 +122,8 @@ pub fn put_sentence(to: &mut [u8], at: usize, table: Table, n: u32) -> usize
             put the card into a second book, or make it with fewer knots; a program that calls has to lend as many bytes as the book then has\n\
             the record there is out of order, or its room is in the book already: make the book anew from the rooms' cards\n\
             the sensor was out for most of that time: cut the log to minutes of which half are good, leave it out, or write a hole at the minute of its middle and mend the sheet\n\
-            \n\
-            \n\
+            a pre-heater's table has 3 to 20 values: leave some out, or make two tables\n\
+            ask for 2 to 60 parts to a step of the pre-heater's table\n\
             lend 14 + 16n bytes, or n places\n",
             n,
         ),
@@ -133,10 +133,10 @@ pub fn put_sentence(to: &mut [u8], at: usize, table: Table, n: u32) -> usize
             b"\n\
             is not a whole number; hundredths are whole: write 550 for 5.5 %\n\
             has a zero or a sign too many: write 50 for 050, and 0 for -0\n\
-            is too large: a minute is at most 65535, an ordinate from -32768 to 32767\n\
+            is too large: a minute is at most 65535, an ordinate or value from -32768 to 32767\n\
             stands alone: a knot is a minute and an ordinate, or a minute and @FILE for a log\n\
             is one word too many: a knot is a minute, an ordinate or @FILE for a log, whose name has no blank here, and behind that its slope if it has one\n\
-            is longer than 65535 bytes: no sheet is\n\
+            is longer than 65535 bytes: no sheet or table is\n\
             is a hole: kaihveto mend fills it, in a sheet without slopes\n\
             asks for the name of a log's file: write MINUTE @FILE\n\
             is no slope: behind an ordinate or @FILE, whose name has no blank here, stands nothing or a whole number of card units, with no zero in front\n\
@@ -202,6 +202,18 @@ pub fn refused_line(to: &mut [u8], number: u32, place: u32, line: u32) -> usize
     let after_line = put_line(to, 0, line);
     let after_place = put_place(to, after_line, number, place, line);
     put_refused(to, after_place, number)
+}
+
+// A value of a pre-heater's table that is refused, at the front of a buffer: its line, its place, the number
+// and its sentence.
+pub fn value_line(to: &mut [u8], number: u32, place: u32, line: u32) -> usize
+    requires { ⌜ 4096 ≤ length (now to) ⌝ }
+    ensures { λ r. ⌜ Put (value-line number place line) (now (to .entry)) (now (to .exit)) 0 r ⌝ }
+{
+    let after_line = put_line(to, 0, line);
+    let after_place = decimal::put_worded(to, after_line, b"value ", place as u64);
+    let next = decimal::put_words(to, after_place, b": ");
+    put_refused(to, next, number)
 }
 
 // A word between quotes, where it can be shown as it is.
