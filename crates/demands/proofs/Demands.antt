@@ -28,7 +28,7 @@ use Rattle.exists.specs.Sound.{Sound}
 use Rattle.slope_fit.specs.SlopesFit.{standing}
 use Rattle.sloped.specs.Sloped as Sloped
 use Rattle.sloped.proofs.Sloped.{one-solution, within-two}
-use Rattle.demands.specs.Calls.{A-fit, A-fit-between, A-fit-slopes, without-ends, between-ends, by-slopes, sloped-card, buffer, A-check, checked-bytes, read-bytes, places, reading-bytes, minute, A-table, table-bytes, from, lists-for, lists-for′, swing-bytes, explained-bytes, explained-minute, first-minute, log, sheet-minutes, sheet, A-book-find, the-book, the-room, the-part, A-book-put, put-book, put-book′, put-room, put-card}
+use Rattle.demands.specs.Calls.{A-fit, A-fit-between, A-fit-slopes, without-ends, between-ends, by-slopes, sloped-card, buffer, A-check, checked-bytes, read-bytes, places, reading-bytes, minute, A-table, table-bytes, from, lists-for, lists-for′, swing-bytes, explained-bytes, explained-minute, heat-values, heat-parts, heat-count, first-minute, log, sheet-minutes, sheet, A-book-find, the-book, the-room, the-part, A-book-put, put-book, put-book′, put-room, put-card}
 use Rattle.demands.specs.Demands.{Fit-says, Off, before-8-of-slopes, Demand-1, Demand-2, Demand-3, Demands}
 use Rattle.fit.proofs.Numbered.{codes-numbered}
 use Rattle.demands.proofs.Numbered.{accepts}
@@ -44,6 +44,7 @@ use Rattle.demands.proofs.RoundTrip.{written-accepted, written-held, wr
 use Rattle.demands.proofs.Off.{stands-on-a-gap, of-card, within-2, flat-ends, close, at-knots, looks, gap-left, on-its-card, in-table, table-counted}
 use Rattle.demands.proofs.Swung.{swings}
 use Rattle.demands.proofs.Explaining.{explain-answers, explain-zeros, explain-no-reason, explain-why, explain-names, explain-fits, explain-made}
+use Rattle.demands.proofs.Heated.{preheat-answers, preheat-zeros, preheats}
 use Rattle.demands.proofs.NeverTen.{codes-never, written-never, checked-never, read-never, read-off-never, table-never, fitted-never, mended-never, refitted-never}
 
 -- ---- 1
@@ -86,6 +87,8 @@ one =
       explain = λ c. explain-answers (explained-bytes c) (explained-minute c) (c .promised);
       explain-zeros = λ c. explain-zeros (explained-bytes c) (explained-minute c) (c .promised);
       explain-no-reason = λ c. explain-no-reason (explained-bytes c) (explained-minute c) (c .promised);
+      preheat = λ c. preheat-answers (heat-values c) (heat-parts c) (heat-count c) (c .promised);
+      preheat-zeros = λ c. preheat-zeros (heat-values c) (heat-parts c) (heat-count c) (c .promised);
       refit = λ c. refit-answers (c .promised) .0;
       refit-zeros = λ c. refit-answers (c .promised) .1;
       refit-spares = λ c. refit-spares (c .promised);
@@ -218,6 +221,7 @@ three =
           explain-names (explained-bytes c) (explained-minute c) (c .promised)
           (one .check k .number ∙ ap (λ s. number (own s)) same) (one .check k .place ∙ ap (λ s. place (own s)) same);
       explain-fits = λ c. explain-fits (explained-bytes c) (explained-minute c) (c .promised);
+      preheats = λ c. preheats (heat-values c) (heat-parts c) (heat-count c) (c .promised);
       found-off = λ c zero. off (the-part c) (part-passes (the-room c) (the-book c) (c .promised) zero);
       write-never-10 = λ w half e. written-never (known-writer w) half (length (buffer w)) (sym (one .write w .number) ∙ e);
       check-never-10 = λ c half e. checked-never (checked-bytes c) half (sym (one .check c .number) ∙ e);

@@ -2,8 +2,8 @@
 -- ends, between free ends and to Table 3's slopes, whose card is written and told as of kind 6; its card is
 -- accepted by the writer, its bytes by the card test, the reader, a reading, a table, the swing, an
 -- explanation and the fresh fit, and it is within half a unit of an exact solution, as are the numbers of
--- these fits; it is put into a book and found there. P7's knots with a hole are mended, and P8's log has a
--- mean. Assumes nothing.
+-- these fits; it is put into a book and found there. P7's knots with a hole are mended, P8's log has a
+-- mean, and the pre-heater has document 001's example. Assumes nothing.
 use mathlib.Core.Path.{_≡_, refl, sym, ap, ap₂, _∙_, subst}
 use mathlib.Core.Logic.{inl, inr}
 use mathlib.Core.List.{List, [], _∷_, _++_}
@@ -41,6 +41,8 @@ use Rattle.table.specs.Table.{table-order, tabled}
 use Rattle.table.specs.Promise.{Columns, table-verdict, rows}
 use Rattle.swing.specs.Swing.{swung}
 use Rattle.explain.specs.Explain.{explain}
+use Rattle.cubic.proofs.Example.{example}
+use Rattle.preheat.proofs.Cases.{read as heated-at, example-at-14}
 use Rattle.swing.proofs.Examples.{cards}
 use Rattle.writer.specs.Promise.{written}
 use Rattle.knots.specs.Lent.{lent}
@@ -75,7 +77,7 @@ use Rattle.book_put.specs.Put.{entry, put-in, after}
 use Rattle.book_put.proofs.Answers.{fits}
 use Rattle.bookkeeping.proofs.Inverse.{no-room}
 use Rattle.kaihveto.specs.Types.{Minutes, Room}
-use Rattle.demands.specs.Calls.{A-mean, A-fit, A-fit-between, A-fit-slopes, without-ends, between-ends, card-between, by-slopes, worked-out, A-write, A-write-slopes, with-codes, with-slopes, written-card, A-check, A-read, A-reading, A-table, A-swing, A-explain, fresh-job, A-refit, anew, A-mend, of-the-mended, A-book-put, A-book-find}
+use Rattle.demands.specs.Calls.{A-mean, A-fit, A-fit-between, A-fit-slopes, without-ends, between-ends, card-between, by-slopes, worked-out, A-write, A-write-slopes, with-codes, with-slopes, written-card, A-check, A-read, A-reading, A-table, A-swing, A-explain, A-preheat, fresh-job, A-refit, anew, A-mend, of-the-mended, A-book-put, A-book-find}
 use Rattle.demands.specs.Demands.{Is-given, Room-for, On-the-card, Half-a-unit, Half-a-unit-held}
 use Rattle.demands.proofs.Numbers.{typed}
 use Rattle.demands.proofs.Jobs as Jobs
@@ -428,6 +430,12 @@ module _ (lifetime : Lft) (pointer : ℕ × ℕ) (name : GName) where
   pub reading-looks : reading-call .answer .looks ≡ 2
   unfolding middle look looking every-gap found p1 table-3
   reading-looks = hold-all .three .off check-call check-accepts .looks reading-call refl on-the-bytes .counted ∙ ap (λ c. found (c .minutes) 4 .looks) (table-3-bytes .2)
+
+  abbrev pub preheat-call : A-preheat
+  preheat-call = record { lifetimes = (lifetime, tt); arguments = (list example, (10, (14, tt))); answer = heated-at example 10 14; exit = (list example, (10, (14, tt))); promised = refl }
+
+  pub preheat-is : preheat-call .answer ≡ record { number = 0; place = 0; value = pos 2142 }
+  preheat-is = example-at-14
 
   abbrev pub explain-call : A-explain
   explain-call = record { lifetimes = (lifetime, tt); arguments = (list bytes, (4, tt)); answer = explain bytes 4; exit = (list bytes, (4, tt)); promised = refl }

@@ -7,6 +7,7 @@ pub mod RoundTrip
 pub mod Off
 pub mod Swung
 pub mod Explaining
+pub mod Heated
 pub mod NeverTen
 pub mod Given
 pub mod Books

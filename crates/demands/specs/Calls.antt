@@ -44,6 +44,7 @@ use Rattle.kaihveto.proofs.kaihveto_reading.Reads as reading
 use Rattle.kaihveto.proofs.kaihveto_table.Reads as table
 use Rattle.kaihveto.proofs.kaihveto_swing.Reads as swing
 use Rattle.kaihveto.proofs.kaihveto_explain.Reads as explain
+use Rattle.kaihveto.proofs.kaihveto_preheat.Reads as preheat
 use Rattle.kaihveto.proofs.kaihveto_refit.Reads as refit
 use Rattle.kaihveto.proofs.kaihveto_book_find.Reads as book-find
 use Rattle.kaihveto.proofs.kaihveto_book_put.Reads as book-put
@@ -307,6 +308,20 @@ explained-bytes c = now (c .arguments .0)
 
 abbrev pub explained-minute : A-explain → ℕ
 explained-minute c = c .arguments .1 .0
+
+-- ---- kaihveto_preheat(values, parts, count)
+
+abbrev pub A-preheat : Type 0
+A-preheat = Call preheat.Post
+
+abbrev pub heat-values : A-preheat → List ℤ
+heat-values c = now (c .arguments .0)
+
+abbrev pub heat-parts : A-preheat → ℕ
+heat-parts c = c .arguments .1 .0
+
+abbrev pub heat-count : A-preheat → ℕ
+heat-count c = c .arguments .1 .1 .0
 
 -- ---- kaihveto_refit(card, slopes, curvatures)
 

@@ -39,6 +39,8 @@ use Rattle.swing.specs.Swing as Swing
 use Rattle.explain.specs.declared.Explained.{Explained}
 use Rattle.explain.specs.Explain.{sum as parts-sum}
 use Rattle.reasons.specs.Reasons.{Terms, No-parts, No-reason, Because, Fits-64}
+use Rattle.preheat.specs.Preheat as Preheat
+use Rattle.preheat.specs.Demand.{On-cubic}
 use Rattle.mend.specs.Changes.{restored}
 use Rattle.mending.specs.Listed.{Lists-the-holes}
 use Rattle.refit.specs.Fresh as Fresh
@@ -46,7 +48,7 @@ use Rattle.book.specs.Book.{Entry, book-bytes, size, book}
 use Rattle.book.specs.Lookup.{look-up}
 use Rattle.book_put.specs.Put as Put
 use Rattle.bookkeeping.specs.Card.{card-in}
-use Rattle.demands.specs.Calls.{A-mean, first-minute, log, A-fit, A-fit-between, A-fit-slopes, Fitting, without-ends, fitted-card, between-ends, card-between, by-slopes, sloped-card, slopes-by, curvatures-by, the-fit, worked-out, A-writing, written-kind, written-card, buffer, buffer′, write-answer, A-check, checked-bytes, A-read, read-bytes, places, places′, A-reading, reading-bytes, minute, three, A-table, table-bytes, from, lists-for, lists-for′, row, A-swing, swing-bytes, A-explain, explained-bytes, explained-minute, A-refit, refit-bytes, fresh-slopes, fresh-curvatures, fresh-slopes′, fresh-curvatures′, old-card, anew, fresh-card, A-mend, sheet-minutes, sheet, sheet′, change-list, change-list′, of-the-mended, mended-card, the-mending, A-book-find, the-book, the-room, the-part, A-book-put, put-book, put-book′, put-room, put-card}
+use Rattle.demands.specs.Calls.{A-mean, first-minute, log, A-fit, A-fit-between, A-fit-slopes, Fitting, without-ends, fitted-card, between-ends, card-between, by-slopes, sloped-card, slopes-by, curvatures-by, the-fit, worked-out, A-writing, written-kind, written-card, buffer, buffer′, write-answer, A-check, checked-bytes, A-read, read-bytes, places, places′, A-reading, reading-bytes, minute, three, A-table, table-bytes, from, lists-for, lists-for′, row, A-swing, swing-bytes, A-explain, explained-bytes, explained-minute, A-preheat, heat-values, heat-parts, heat-count, A-refit, refit-bytes, fresh-slopes, fresh-curvatures, fresh-slopes′, fresh-curvatures′, old-card, anew, fresh-card, A-mend, sheet-minutes, sheet, sheet′, change-list, change-list′, of-the-mended, mended-card, the-mending, A-book-find, the-book, the-room, the-part, A-book-put, put-book, put-book′, put-room, put-card}
 
 -- ---- 1. "Every input gets an answer: bad knots, logs, cards and minutes are refused by number and place, the numbers beside a refusal are zero, and lent memory stays untouched."
 
@@ -103,6 +105,8 @@ pub record Demand-1 : Type 0 where
   pub swing : (c : A-swing) → Says (own (swing-bytes c)) (c .answer .number) (c .answer .place)
   -- the card's, then 11, as of a reading
   pub explain : (c : A-explain) → Says (reading-order (own (explained-bytes c)) (card-of (explained-bytes c)) (explained-minute c)) (c .answer .number) (c .answer .place)
+  -- 1, 24, 6; 25; 11 (document 02, order 10)
+  pub preheat : (c : A-preheat) → Says (Preheat.preheat (heat-values c) (heat-parts c) (heat-count c)) (c .answer .number) (c .answer .place)
   -- 3, the card's, 26; then the fit's own
   pub refit : (c : A-refit) → Says (Fresh.refit (length (fresh-slopes c)) (length (fresh-curvatures c)) (refit-bytes c)) (c .answer .number) (c .answer .place)
   -- 3, 1, 2; per knot 4, 5, 6; 17; 18; then the fit's own
@@ -122,6 +126,7 @@ pub record Demand-1 : Type 0 where
   -- an explanation has no parts beside a refusal, and the reason of a refusal beside 10 alone (document 02, order 9)
   pub explain-zeros : (c : A-explain) → c .answer .number ≢ 0 → No-parts (c .answer)
   pub explain-no-reason : (c : A-explain) → c .answer .number ≢ 10 → No-reason (c .answer)
+  pub preheat-zeros : (c : A-preheat) → c .answer .number ≢ 0 → c .answer .value ≡ pos 0
   pub refit-zeros : (c : A-refit) → c .answer .number ≢ 0 → (c .answer .knots ≡ 0) × (c .answer .changed ≡ 0)
   pub mend-zeros : (c : A-mend) → c .answer .number ≢ 0 → c .answer .count ≡ 0
   pub book-find-zeros : (c : A-book-find) → c .answer .number ≢ 0 → (c .answer .start ≡ 0) × (c .answer .length ≡ 0)
@@ -383,6 +388,9 @@ pub record Demand-3 : Type 0 where
   pub explain-names : (c : A-explain) (k : A-check) → checked-bytes k ≡ explained-bytes c → Names-exactly (c .answer) (k .answer)
   -- and all of it fits 64 bits, the parts' sum too, in whatever order they are added
   pub explain-fits : (c : A-explain) → Fits-64 (c .answer)
+  -- and so for the pre-heater, whose table has no card: within half a hundredth of the exact natural cubic, ties
+  -- to even, and at the table's values its own (document 02, order 10)
+  pub preheats : (c : A-preheat) → c .answer .number ≡ 0 → On-cubic (heat-values c) (heat-parts c) (heat-count c) (c .answer .value)
   -- "and no card within half a unit of an exact solution is refused for a jump"
   pub write-never-10 : (w : A-writing) → Half-a-unit (written-kind w) (written-card w) → write-answer w .number ≢ 10
   pub check-never-10 : (c : A-check) → Half-a-unit-held (checked-bytes c) → c .answer .number ≢ 10

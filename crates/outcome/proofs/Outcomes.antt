@@ -40,6 +40,7 @@ use Rattle.minutes.proofs.right_gap.Reads as right-gap
 use Rattle.minutes.proofs.wider_gap.Reads as wider-gap
 use Rattle.knots.proofs.stand.Reads as stand
 use Rattle.knots.proofs.in_range.Reads as in-range
+use Rattle.knots.proofs.beyond.Reads as beyond
 use Rattle.minutes.proofs.outside.Reads as outside
 use Rattle.minutes.proofs.find.Reads as find
 use Rattle.gaps.proofs.Knot.mirrored.Reads as mirrored
@@ -87,6 +88,12 @@ use Rattle.swing.proofs.gap.Reads as swing-gap
 use Rattle.swing.proofs.swing.Reads as swing
 use Rattle.explain.proofs.Explained.sum.Reads as explained-sum
 use Rattle.explain.proofs.explain.Reads as explain
+use Rattle.cubic.proofs.entry.Reads as cubic-entry
+use Rattle.unknowns.proofs.check.Reads as unknowns-check
+use Rattle.unknowns.proofs.value_at.Reads as unknowns-value-at
+use Rattle.unknowns.proofs.at.Reads as unknowns-at
+use Rattle.unknowns.proofs.unknown_at.Reads as unknown-at
+use Rattle.preheat.proofs.value.Reads as preheat-value
 use Rattle.writer.specs.declared.Written.{Written}
 use Rattle.writer.specs.Promise.{Writes}
 use Rattle.writer.proofs.write.Reads as write
@@ -157,11 +164,15 @@ use Rattle.numeral.proofs.plain.Reads as plain
 use Rattle.numeral.proofs.Number.natural.Reads as natural
 use Rattle.numeral.proofs.Ordinate.of.Reads as ordinate-of
 use Rattle.numeral.proofs.Signed.of.Reads as signed-of
+use Rattle.text.proofs.bare_line.Reads as bare-line
 use Rattle.text.proofs.blamed.Reads as blamed
 use Rattle.text.proofs.log_name.Reads as log-name
 use Rattle.text.proofs.Sheet.read.Reads as text-read
+use Rattle.values.proofs.Values.read.Reads as values-read
+use Rattle.values.proofs.blamed.Reads as value-blamed
 use Rattle.words.proofs.put_sentence.Reads as put-sentence
 use Rattle.words.proofs.refused_line.Reads as refusal-said
+use Rattle.words.proofs.value_line.Reads as value-said
 use Rattle.words.proofs.wrong_line.Reads as wrong-said
 use Rattle.words.proofs.mended_line.Reads as mended-said
 use Rattle.reply.specs.declared.Answered.{Answered}
@@ -215,6 +226,7 @@ use Rattle.kaihveto.proofs.kaihveto_reading.Reads as c-reading
 use Rattle.kaihveto.proofs.kaihveto_table.Reads as c-table
 use Rattle.kaihveto.proofs.kaihveto_swing.Reads as c-swing
 use Rattle.kaihveto.proofs.kaihveto_explain.Reads as c-explain
+use Rattle.kaihveto.proofs.kaihveto_preheat.Reads as c-preheat
 use Rattle.kaihveto.proofs.kaihveto_refit.Reads as c-refit
 use Rattle.kaihveto.proofs.kaihveto_book_find.Reads as c-book-find
 use Rattle.kaihveto.proofs.kaihveto_book_put.Reads as c-book-put
@@ -406,8 +418,8 @@ records = (equation _ _, (λ κs a x y s t p q. ap (λ n. record { at = n }) (on
 pub minutes : Once back.Post × Once on.Post × Once left-gap.Post × Once right-gap.Post × Once wider-gap.Post × Once outside.Post × Once find.Post
 minutes = (equation _ _, equation _ _, equation _ _, equation _ _, equation _ _, judgement _, equation _ _)
 
-pub knots : Once kind-quintic.Post × Once kind-sloped.Post × Once same-lengths.Post × Once counted.Post × Once codes.Post × Once sized.Post × Once room.Post × Once stand.Post × Once in-range.Post
-knots = (equation _ _, equation _ _, judgement _, judgement _, judgement _, judgement _, judgement _, judgement _, λ κs a x y s t p q. one-judgement (p [] 0 0) (q [] 0 0))
+pub knots : Once kind-quintic.Post × Once kind-sloped.Post × Once same-lengths.Post × Once counted.Post × Once codes.Post × Once sized.Post × Once room.Post × Once stand.Post × Once in-range.Post × Once beyond.Post
+knots = (equation _ _, equation _ _, judgement _, judgement _, judgement _, judgement _, judgement _, judgement _, (λ κs a x y s t p q. one-judgement (p [] 0 0) (q [] 0 0)), equation _ _)
 
 pub one-gap : Once mirrored.Post × Once sheet-of.Post × Once weights-of.Post × Once parts-of.Post × Once numerator.Post × Once denominator.Post × Once reading-between.Post
 one-gap = (equation _ _, equation _ _, equation _ _, equation _ _, equation _ _, equation _ _, equation _ _)
@@ -458,6 +470,9 @@ card-swung = (equation _ _, equation _ _)
 
 pub card-explained : Once explain.Post × Once explained-sum.Post
 card-explained = (with-more _ _ (equation _ _), equation _ _)
+
+pub cubic : Once cubic-entry.Post × Once unknowns-check.Post × Once unknowns-value-at.Post × Once unknowns-at.Post × Once unknown-at.Post × Once preheat-value.Post
+cubic = (equation _ _, judgement _, equation _ _, equation _ _, equation _ _, equation _ _)
 
 -- the buffer is the seventh
 pub card-written : Once write.Post × Lent write.Post (λ s. now (s .1 .1 .1 .1 .1 .1 .0))
@@ -587,8 +602,11 @@ split = (equation _ _, equation _ _, equation _ _, equation _ _, equation _ _)
 pub numeral : Once starts.Post × Once plain.Post × Once natural.Post × Once ordinate-of.Post × Once signed-of.Post
 numeral = (equation _ _, equation _ _, equation _ _, equation _ _, equation _ _)
 
-pub text : Leaves blamed.Post (λ x s. now x) × Leaves log-name.Post (λ x s. now x) × Once text-read.Post
-text = (equation _ _, equation _ _, equation _ _)
+pub text : Leaves bare-line.Post (λ x s. now x) × Leaves blamed.Post (λ x s. now x) × Leaves log-name.Post (λ x s. now x) × Once text-read.Post
+text = (equation _ _, equation _ _, equation _ _, equation _ _)
+
+pub values : Once values-read.Post × Leaves value-blamed.Post (λ x s. now x)
+values = (equation _ _, equation _ _)
 
 -- the buffer is the first parameter
 pub sentence-put : Once put-sentence.Post × Lent put-sentence.Post (λ s. now (s .0))
@@ -596,6 +614,9 @@ sentence-put = putting _ _ _ _
 
 pub refusal-told : Once refusal-said.Post × Lent refusal-said.Post (λ s. now (s .0))
 refusal-told = putting _ _ _ _
+
+pub value-told : Once value-said.Post × Lent value-said.Post (λ s. now (s .0))
+value-told = putting _ _ _ _
 
 pub wrong-told : Once wrong-said.Post × Lent wrong-said.Post (λ s. now (s .0))
 wrong-told = putting _ _ _ _
@@ -626,8 +647,8 @@ card-listed = (
 pub boundary-version : Once c-version.Post
 boundary-version = equation _ _
 
-pub boundary : Once c-mean.Post × Once c-check.Post × Once c-reading.Post × Once c-swing.Post × Once c-explain.Post
-boundary = (with-more _ _ (equation _ _), with-more _ _ (equation _ _), equation _ _, equation _ _, equation _ _)
+pub boundary : Once c-mean.Post × Once c-check.Post × Once c-reading.Post × Once c-swing.Post × Once c-explain.Post × Once c-preheat.Post
+boundary = (with-more _ _ (equation _ _), with-more _ _ (equation _ _), equation _ _, equation _ _, equation _ _, equation _ _)
 
 pub boundary-fit : Once c-fit.Post × Lent c-fit.Post (λ s. now (s .1 .1 .0)) × Lent c-fit.Post (λ s. now (s .1 .1 .1 .0))
 boundary-fit = fitting _ _ _ _ _
