@@ -99,6 +99,15 @@ pub struct Swing {
     pub above: u32,
 }
 
+/// What kaihveto_preheat answers.
+#[repr(C)]
+#[derive(Clone, Copy, Debug, Default, PartialEq, Eq)]
+pub struct Preheated {
+    pub number: u32,
+    pub place: u32,
+    pub value: i32,
+}
+
 /// What kaihveto_refit answers.
 #[repr(C)]
 #[derive(Clone, Copy, Debug, Default, PartialEq, Eq)]
@@ -156,7 +165,7 @@ pub struct End {
 
 #[cfg(archive)]
 mod linked {
-    use super::{Change, Checked, Explained, Fitted, Mean, Mended, Reading, Refitted, Spot, Swing, Tabled, Used, Written};
+    use super::{Change, Checked, Explained, Fitted, Mean, Mended, Preheated, Reading, Refitted, Spot, Swing, Tabled, Used, Written};
 
     extern "C" {
         pub fn kaihveto_mean(first_minute: u16, log: *const u8, log_length: usize) -> Mean;
@@ -249,6 +258,7 @@ mod linked {
         ) -> Tabled;
         pub fn kaihveto_explain(card: *const u8, card_length: usize, minute: u16) -> Explained;
         pub fn kaihveto_swing(card: *const u8, card_length: usize) -> Swing;
+        pub fn kaihveto_preheat(values: *const i16, values_length: usize, parts: u16, count: u16) -> Preheated;
         pub fn kaihveto_refit(
             card: *const u8,
             card_length: usize,
@@ -426,6 +436,10 @@ pub fn explain(card: &[u8], minute: u16) -> Explained {
 
 pub fn swing(card: &[u8]) -> Swing {
     call!(kaihveto_swing(card.as_ptr(), card.len()))
+}
+
+pub fn preheat(values: &[i16], parts: u16, count: u16) -> Preheated {
+    call!(kaihveto_preheat(values.as_ptr(), values.len(), parts, count))
 }
 
 pub fn refit(card: &[u8], slopes: &mut [i32], curvatures: &mut [i32]) -> Refitted {

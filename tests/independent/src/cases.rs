@@ -1,6 +1,7 @@
 //! Document 01's own cases, run on the reference: Table 3, P1 to P12 and the other cases at the edges; and cases of document 02's orders, worked
 //! by hand.
 
+use crate::preheater::EXAMPLE;
 use crate::random::Random;
 use crate::reference::*;
 
@@ -432,6 +433,184 @@ fn only_a_10_has_a_reason_and_it_is_before_11() {
     assert_eq!(reason(&table_3_with(2, 0, -108_797, [0, 0]), 33), (10, 2, 3, 589_824, 393_216));
     let level = card_bytes(&[5, 7, 9], &[0; 3], &[0; 3], &[0; 3], 0, 0);
     assert_eq!([0, 4, 5, 9, 10, 65_535].map(|minute| reason(&level, minute).0), [11, 11, 0, 0, 11, 11]);
+}
+
+/// Table 1 of document 001 as it is printed, from the index −1 on.
+const TABLE_1: [i128; 19] = [
+    1,
+    4,
+    15,
+    56,
+    209,
+    780,
+    2911,
+    10_864,
+    40_545,
+    151_316,
+    564_719,
+    2_107_560,
+    7_865_521,
+    29_354_524,
+    109_552_575,
+    408_855_776,
+    1_525_870_529,
+    5_694_626_340,
+    21_252_634_831,
+];
+
+/// The scale of n values is the entry with the index n − 3, and the printed entries are by their rule.
+#[test]
+fn the_scales_are_table_1() {
+    for n in FEWEST_VALUES..=MOST_VALUES {
+        assert_eq!(Cubic::of(&vec![7; n]).scale, TABLE_1[n - 2], "{n} values");
+    }
+    for entries in TABLE_1.windows(3) {
+        assert_eq!(entries[2], 4 * entries[1] - entries[0]);
+    }
+}
+
+/// Document 001's example, times ten: its column of 40545/6·M, and its last column within a unit of the last
+/// decimal that is printed.
+#[test]
+fn document_001s_example_has_its_unknowns() {
+    let cubic = Cubic::of(&EXAMPLE);
+    assert_eq!(cubic.scale, 40_545);
+    assert_eq!(cubic.unknowns, [0, 732_450, 1_124_700, 39_600, 135_975, -178_050, -31_950, -99_600, -177_825, 0]);
+    let printed = [0, 18_065_112, 27_739_548, 976_693, 3_353_681, -4_391_417, -788_013, -2_456_530, -4_385_868, 0];
+    for (unknown, printed) in cubic.unknowns.iter().zip(printed) {
+        assert!((unknown * 1_000_000 - printed * cubic.scale).abs() <= cubic.scale, "{unknown} beside {printed}");
+    }
+    for place in 0..10 {
+        assert_eq!(unknown_at(&EXAMPLE, place), Ok((cubic.unknowns[usize::from(place)], 40_545)));
+    }
+    assert_eq!(number_and_place(unknown_at(&EXAMPLE, 10)), (11, 0));
+}
+
+/// The way of document 001: the first unknown by equation (3.13) from the printed table, each other one from
+/// the two before it.
+#[test]
+fn the_unknowns_are_those_of_document_001s_way() {
+    let mut random = Random::new(11);
+    for turn in 0..4_000 {
+        let n = 3 + turn % 18;
+        let values: Vec<i16> = (0..n).map(|_| random.within(-20_000, 20_000) as i16).collect();
+        let a = |index: usize| TABLE_1[index + 1];
+        let second_difference = |j: usize| i128::from(values[j - 1]) - 2 * i128::from(values[j]) + i128::from(values[j + 1]);
+        // The document counts its values from 1: its r is the place r − 1 here, and its a with the index
+        // n − r − 2 may be that of −1.
+        let term = |r: usize| (if r % 2 == 0 { 1 } else { -1 }) * TABLE_1[n - r - 1] * second_difference(r - 1);
+        let mut unknowns = vec![0, (2..n).map(term).sum::<i128>()];
+        for place in 1..n - 1 {
+            unknowns.push(a(n - 3) * second_difference(place) - 4 * unknowns[place] - unknowns[place - 1]);
+        }
+        let cubic = Cubic::of(&values);
+        assert_eq!((cubic.unknowns, cubic.scale), (unknowns, a(n - 3)), "{values:?}");
+    }
+}
+
+/// The determinant of a square, by its first row.
+fn determinant(rows: &[Vec<i128>]) -> i128 {
+    if rows.is_empty() {
+        return 1;
+    }
+    let without = |column: usize| -> Vec<Vec<i128>> {
+        rows[1..]
+            .iter()
+            .map(|row| row.iter().enumerate().filter(|(place, _)| *place != column).map(|(_, &entry)| entry).collect())
+            .collect()
+    };
+    let term = |(column, &entry): (usize, &i128)| {
+        if entry == 0 {
+            0
+        } else {
+            (if column % 2 == 0 { entry } else { -entry }) * determinant(&without(column))
+        }
+    };
+    rows[0].iter().enumerate().map(term).sum()
+}
+
+/// Cramer's rule on the matrix of equation (3.2), which has nothing of either way.
+#[test]
+fn the_unknowns_are_quotients_of_determinants() {
+    let mut random = Random::new(12);
+    for turn in 0..60 {
+        let n = 3 + turn % 6;
+        let values: Vec<i16> = (0..n).map(|_| random.within(-20_000, 20_000) as i16).collect();
+        let entry = |row: usize, column: usize| [4, 1].get(row.abs_diff(column)).copied().unwrap_or(0);
+        let matrix: Vec<Vec<i128>> = (0..n - 2).map(|row| (0..n - 2).map(|column| entry(row, column)).collect()).collect();
+        let right: Vec<i128> =
+            values.windows(3).map(|three| i128::from(three[0]) - 2 * i128::from(three[1]) + i128::from(three[2])).collect();
+        let cubic = Cubic::of(&values);
+        assert_eq!(cubic.scale, determinant(&matrix));
+        for column in 0..n - 2 {
+            let mut exchanged = matrix.clone();
+            (0..n - 2).for_each(|row| exchanged[row][column] = right[row]);
+            assert_eq!(cubic.unknowns[column + 1], determinant(&exchanged), "{values:?}");
+        }
+    }
+}
+
+/// Equation (2.1), each third power and each product as it stands there, with h = 1.
+#[test]
+fn the_exact_value_is_equation_2_1() {
+    let mut random = Random::new(13);
+    for turn in 0..2_000 {
+        let n = 3 + turn % 18;
+        let values: Vec<i16> = (0..n).map(|_| random.within(-20_000, 20_000) as i16).collect();
+        let cubic = Cubic::of(&values);
+        let parts = random.within(2, 60) as u16;
+        let step = random.below(n - 1);
+        let (q, t) = (i128::from(parts), random.below(usize::from(parts) + 1) as i128);
+        let (y, u) = (|i: usize| cubic.scale * cubic.values[i], |i: usize| cubic.unknowns[i]);
+        let (before, behind) = (t, q - t);
+        let numerator = (y(step) - u(step)) * behind * q.pow(2)
+            + (y(step + 1) - u(step + 1)) * before * q.pow(2)
+            + u(step) * behind.pow(3)
+            + u(step + 1) * before.pow(3);
+        assert_eq!(cubic.exact(parts, parts * step as u16 + t as u16), (numerator, cubic.scale * q.pow(3)), "{values:?}");
+    }
+}
+
+/// Three values have the one unknown (y − 2y′ + y″)/4, and in the middle of the first step (y + y′)/2 − 3/8 of
+/// it: 0, 0 and 16 have −1.5 there, and 16, 0 and 0 have 6.5.
+#[test]
+fn ties_go_to_even() {
+    let halves = |values: &[i16]| [1, 3].map(|count| preheat(values, 2, count).unwrap());
+    assert_eq!(Cubic::of(&[0, 0, 16]).exact(2, 1), (-48, 32));
+    assert_eq!(halves(&[0, 0, 16]), [-2, 6]);
+    assert_eq!(halves(&[16, 0, 0]), [6, -2]);
+    assert_eq!(halves(&[2, 2, 18]), [0, 8]);
+    assert_eq!(halves(&[1, 1, 17]), [0, 8]);
+    assert_eq!(halves(&[3, 3, 19]), [2, 10]);
+    assert_eq!(halves(&[0, 0, -16]), [2, -6]);
+    assert_eq!(halves(&[-3, -3, -19]), [-2, -10]);
+    // On a line the middle of a step is a half wherever the step is odd.
+    assert_eq!([1, 3, 5].map(|count| preheat(&[-2, -1, 0, 1], 2, count).unwrap()), [-2, 0, 0]);
+}
+
+#[test]
+fn a_table_of_the_pre_heater_is_refused_in_order() {
+    let refused = |values: &[i16], parts, count| number_and_place(preheat(values, parts, count));
+    let (sound, high, low) = ([0i16; 22], [20_001i16; 22], [-20_001i16; 22]);
+    for n in 0..=22 {
+        let number = if n < 3 { 1 } else { 24 };
+        if !(3..=20).contains(&n) {
+            assert_eq!(refused(&high[..n], 61, 65_535), (number, 0));
+        } else {
+            assert_eq!([refused(&high[..n], 61, 65_535), refused(&low[..n], 2, 0)], [(6, 0); 2]);
+            assert_eq!([0, 1, 61, 65_535].map(|parts| refused(&sound[..n], parts, 65_535)), [(25, 0); 4]);
+            assert_eq!([2, 3, 59, 60].map(|parts| refused(&sound[..n], parts, (n as u16 - 1) * parts)), [(0, 0); 4]);
+            assert_eq!([2, 3, 59, 60].map(|parts| refused(&sound[..n], parts, (n as u16 - 1) * parts + 1)), [(11, 0); 4]);
+        }
+    }
+    for (place, value) in [(0, 20_001), (1, i16::MIN), (2, -20_001), (3, i16::MAX)] {
+        let mut values = [20_000, -20_000, 20_000, -20_000];
+        values[place] = value;
+        assert_eq!(refused(&values, 0, 65_535), (6, place as u32));
+        assert_eq!(number_and_place(unknown_at(&values, 9)), (6, place as u32));
+    }
+    assert_eq!([2, 21].map(|n| number_and_place(unknown_at(&high[..n], 65_535))), [(1, 0), (24, 0)]);
+    assert_eq!([0, 19, 20].map(|place| number_and_place(unknown_at(&sound[..20], place)).0), [0, 0, 11]);
 }
 
 /// Minute after minute, a knot at every second one, on one line.

@@ -71,7 +71,7 @@ fn u16_pattern(length: usize) -> Vec<u16> {
 }
 
 fn i16_pattern(length: usize) -> Vec<i16> {
-    pattern(length, |i| -23_000 - i as i16)
+    pattern(length, |i| -23_000 - (i % 9_000) as i16)
 }
 
 fn i32_pattern(length: usize) -> Vec<i32> {
@@ -375,6 +375,33 @@ pub fn swing(tally: &mut Tally, card: &[u8]) {
         Err(Refusal { number, place }) => boundary::Swing { number, place, ..Default::default() },
     };
     tally.count("swing", wanted.number, boundary::swing(card), wanted, true, || hex(card));
+}
+
+/// The values are lent to be read: they stand inside a pattern of numbers that are beyond the limit, so that
+/// reading past either end shows too.
+fn compare_preheat(tally: &mut Tally, values: &[i16], parts: u16, count: u16, wanted: impl FnOnce() -> Result<i32, Refusal>) {
+    if !tally.takes_the_next() {
+        return;
+    }
+    let wanted = match wanted() {
+        Ok(value) => boundary::Preheated { value, ..Default::default() },
+        Err(Refusal { number, place }) => boundary::Preheated { number, place, ..Default::default() },
+    };
+    let mut given = within_a_pattern(i16_pattern(values.len()), values);
+    let held = given.clone();
+    let ours = boundary::preheat(lent(black_box(&mut given)), parts, count);
+    let input = || format!("at {count}, {parts} to a step, of {values:?}");
+    tally.count("preheat", wanted.number, ours, wanted, *black_box(&given) == held, input);
+}
+
+/// The pre-heater's value at a count of parts.
+pub fn preheat(tally: &mut Tally, values: &[i16], parts: u16, count: u16) {
+    compare_preheat(tally, values, parts, count, || reference::preheat(values, parts, count));
+}
+
+/// The same of a table whose cubic is there already.
+pub fn preheat_of(tally: &mut Tally, cubic: &reference::Cubic, values: &[i16], parts: u16, count: u16) {
+    compare_preheat(tally, values, parts, count, || cubic.at(parts, count));
 }
 
 /// A card fitted anew, into lists of these lengths.

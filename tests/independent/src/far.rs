@@ -3,7 +3,7 @@
 //! linked with the library. KAIHVETO_FAR names that program, and KAIHVETO_RUN the command that runs it, where
 //! it does not run by itself.
 
-use crate::boundary::{Change, Checked, Explained, Fitted, Mean, Mended, Reading, Refitted, Spot, Swing, Tabled, Used, Written};
+use crate::boundary::{Change, Checked, Explained, Fitted, Mean, Mended, Preheated, Reading, Refitted, Spot, Swing, Tabled, Used, Written};
 use std::env;
 use std::ffi::{OsStr, OsString};
 use std::io::{BufReader, Read, Write};
@@ -267,6 +267,10 @@ pub unsafe fn kaihveto_explain(card: *const u8, card_length: usize, minute: u16)
 
 pub unsafe fn kaihveto_swing(card: *const u8, card_length: usize) -> Swing {
     Call::new(b's').list(card, card_length).made().answer()
+}
+
+pub unsafe fn kaihveto_preheat(values: *const i16, values_length: usize, parts: u16, count: u16) -> Preheated {
+    Call::new(b'n').list(values, values_length).number(parts.into()).number(count.into()).made().answer()
 }
 
 pub unsafe fn kaihveto_refit(

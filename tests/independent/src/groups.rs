@@ -3,6 +3,7 @@
 use crate::books;
 use crate::compare::{self, Tally};
 use crate::curves::{self, Numbers, Sheet, Turn};
+use crate::preheater;
 use crate::random::Random;
 use crate::reference::{
     self, card_size, End, Kind, Swing, CARD_NUMBER_LIMIT, FREE, HOLE, LONGEST_LOG, MOST_KNOTS, ORDINATE_LIMIT, WIDEST_GAP,
@@ -1003,7 +1004,7 @@ fn mends(tally: &mut Tally, random: &mut Random) {
 
 /// The numbers that the comparisons of each function have to meet, so that inputs which no longer reach one of them are seen. 8 is
 /// missing, which no input is known to meet, and the fits' 10, which none of these does.
-const TO_BE_MET: [(&str, &[u32]); 16] = [
+const TO_BE_MET: [(&str, &[u32]); 17] = [
     ("mean", &[0, 16, 12, 13, 23, 19]),
     ("fit", &[0, 3, 1, 2, 4, 5, 6, 9]),
     ("fit_ends", &[0, 3, 1, 2, 15, 4, 5, 6, 7, 9]),
@@ -1016,6 +1017,7 @@ const TO_BE_MET: [(&str, &[u32]); 16] = [
     ("table", &[0, 3, 14, 15, 4, 5, 6, 9, 10, 11]),
     ("explain", &[0, 14, 1, 2, 15, 4, 5, 6, 9, 10, 11]),
     ("swing", &[0, 14, 1, 2, 15, 4, 5, 6, 9, 10]),
+    ("preheat", &[0, 1, 24, 6, 25, 11]),
     ("refit", &[0, 3, 14, 1, 2, 15, 4, 5, 6, 9, 10, 26]),
     ("mend", &[0, 3, 1, 2, 4, 5, 6, 17, 18, 9]),
     ("book_find", &[0, 14, 22, 20, 1, 2, 15, 4, 5, 6, 9, 10]),
@@ -1040,7 +1042,7 @@ type Group = fn(&mut Tally, &mut Random);
 /// whether nothing differed and, of all questions, nothing was left unmet: a part may miss a number that few
 /// of them meet.
 pub fn run(part: Option<u64>) -> bool {
-    let groups: [(&str, Group); 28] = [
+    let groups: [(&str, Group); 31] = [
         ("logs", logs),
         ("fits", fits),
         ("given numbers", given),
@@ -1069,6 +1071,9 @@ pub fn run(part: Option<u64>) -> bool {
         ("given slopes at the limit and fitted anew", slopes::fresh_fits_and_limits),
         ("books of both kinds of card", books::books_of_both_kinds),
         ("explanations", explanations),
+        ("tables of the pre-heater", preheater::tables),
+        ("the pre-heater at a half", preheater::at_a_half),
+        ("what the pre-heater refuses", preheater::refusals),
     ];
     let mut tally = Tally::new(part);
     for (seed, (name, group)) in groups.iter().enumerate() {

@@ -1,8 +1,8 @@
 //! The numbers of include/kaihveto.h beside the reference's own.
 
 use crate::reference::{
-    numerator, Kind, Knot, CARD_NUMBER_LIMIT, FAULT, HIGHEST_GOOD_BYTE, LEAST_KNOTS, LONGEST_BOOK, LONGEST_LOG, MOST_KNOTS, ORDINATE_LIMIT,
-    WIDEST_GAP,
+    numerator, Kind, Knot, CARD_NUMBER_LIMIT, FAULT, FEWEST_PARTS, FEWEST_VALUES, HIGHEST_GOOD_BYTE, LEAST_KNOTS, LONGEST_BOOK,
+    LONGEST_LOG, MOST_KNOTS, MOST_PARTS, MOST_VALUES, ORDINATE_LIMIT, WIDEST_GAP,
 };
 
 const HEADER: &str = include_str!("../../../include/kaihveto.h");
@@ -24,6 +24,10 @@ fn the_limits_are_the_references() {
         ("LOG_LARGEST_GOOD", i128::from(HIGHEST_GOOD_BYTE)),
         ("LOG_FAULT", i128::from(FAULT)),
         ("BOOK_MOST_BYTES", LONGEST_BOOK as i128),
+        ("PREHEAT_FEWEST_VALUES", FEWEST_VALUES as i128),
+        ("PREHEAT_MOST_VALUES", MOST_VALUES as i128),
+        ("PREHEAT_FEWEST_PARTS", i128::from(FEWEST_PARTS)),
+        ("PREHEAT_MOST_PARTS", i128::from(MOST_PARTS)),
         ("FITTED", i128::from(Kind::Quintic.head())),
         ("SLOPES_GIVEN", i128::from(Kind::Sloped.head())),
     ];

@@ -15,6 +15,7 @@ pub mod groups;
 #[cfg(test)]
 mod header;
 pub mod lines;
+pub mod preheater;
 pub mod random;
 pub mod reference;
 #[cfg(test)]

@@ -9,7 +9,7 @@ use std::str::FromStr;
 /// A line's fields, each as its words.
 type Fields = BTreeMap<String, Vec<String>>;
 
-const NAMES: [&str; 15] = [
+const NAMES: [&str; 19] = [
     "minutes",
     "ordinates",
     "slopes",
@@ -25,6 +25,10 @@ const NAMES: [&str; 15] = [
     "room",
     "changes",
     "places",
+    "values",
+    "parts",
+    "count",
+    "place",
 ];
 
 pub(crate) fn parse<T: FromStr>(word: &str) -> Result<T, String> {
@@ -89,6 +93,10 @@ struct Asked {
     room: usize,
     changes: usize,
     places: [usize; 4],
+    values: Vec<i16>,
+    parts: u16,
+    count: u16,
+    place: u16,
 }
 
 impl Asked {
@@ -123,6 +131,10 @@ impl Asked {
             room: so_many(fields, "room", parse)?.map_or(card_size(n), |[room]| room),
             changes: so_many(fields, "changes", parse)?.map_or(n, |[changes]| changes),
             places: so_many(fields, "places", parse)?.unwrap_or([n; 4]),
+            values: list(fields, "values")?,
+            parts: so_many(fields, "parts", parse)?.map_or(0, |[parts]| parts),
+            count: so_many(fields, "count", parse)?.map_or(0, |[count]| count),
+            place: so_many(fields, "place", parse)?.map_or(0, |[place]| place),
             minutes,
             ordinates,
             slopes,
@@ -227,6 +239,17 @@ impl Asked {
         format!("{}; knot {knot}; minute {minute}; below {below}; above {above}", verdict(&answer))
     }
 
+    fn preheat(&self) -> String {
+        let answer = preheat(&self.values, self.parts, self.count);
+        format!("{}; value {}", verdict(&answer), answer.unwrap_or(0))
+    }
+
+    fn unknown(&self) -> String {
+        let answer = unknown_at(&self.values, self.place);
+        let (unknown, scale) = answer.unwrap_or((0, 0));
+        format!("{}; unknown {unknown}; scale {scale}", verdict(&answer))
+    }
+
     fn mend(&self) -> String {
         let [x, y, m, c] = self.places;
         let (minutes, mut ordinates) = (places_of(&self.minutes, x), places_of(&self.ordinates, y));
@@ -253,6 +276,8 @@ impl Asked {
             "reading" => Ok(self.reading()),
             "explain" => Ok(self.explain()),
             "swing" => Ok(self.swing()),
+            "preheat" => Ok(self.preheat()),
+            "unknown" => Ok(self.unknown()),
             "mend" => Ok(self.mend()),
             _ => Err(format!("nothing is asked by {word}")),
         }
