@@ -1,7 +1,7 @@
 //! The library and plain Rust on sound and unsound inputs of each kind: both must answer alike and leave the
 //! same in what they are lent.
 
-use crate::inputs::{first_and_count, Cards, Inputs, KNOTS};
+use crate::inputs::{first_and_count, Cards, Inputs, KNOTS, PARTS};
 use crate::library::{Change, End, Functions, Library};
 use crate::plain::Plain;
 use independent::curves::{self, Numbers, Sheet};
@@ -81,6 +81,23 @@ fn same_mend(library: &Library, sheet: &Sheet, room: usize) {
         let mut lists = (sheet.ordinates.clone(), vec![7; n], vec![8; n], vec![Change { place: 9, old: 10, new: 11 }; room]);
         (by.mend(&sheet.minutes, &mut lists.0, &mut lists.1, &mut lists.2, &mut lists.3), lists)
     });
+}
+
+/// The tables that are timed at every count and past it, and tables of any length, values, parts and counts.
+fn heats(library: &Library, inputs: &Inputs, random: &mut Random) {
+    for values in &inputs.heats {
+        for count in 0..=PARTS * values.len() as u16 {
+            same(library, &("preheat", count, values), |by| by.preheat(values, PARTS, count));
+        }
+    }
+    for _ in 0..40_000 {
+        let most = random.pick(&[5, 500, 20_000, 20_000, 20_001]);
+        let values: Vec<i16> = (0..random.below(23)).map(|_| random.within(-most, most) as i16).collect();
+        let any_parts = random.within(2, 60) as u16;
+        let parts = random.pick(&[2, 2, 4, 60, 60, 59, 61, 1, any_parts]);
+        let count = random.below(usize::from(parts) * values.len() + 1) as u16;
+        same(library, &("preheat", parts, count, &values), |by| by.preheat(&values, parts, count));
+    }
 }
 
 fn same_book(library: &Library, book: &[u8], room: u16, card: &[u8]) {
@@ -194,5 +211,6 @@ pub fn compare(library: &Library, inputs: &Inputs) {
         let first = random.pick(&[9, 65_504, 65_505, 65_506, 65_535]);
         same(library, &("mean", first, &log), |by| by.mean(first, &log));
     }
+    heats(library, inputs, random);
     books(library, inputs, random);
 }

@@ -1,11 +1,14 @@
 //! What is timed: cards of 64 knots on gaps of an hour and on gaps of 20 to 60 minutes, the latter with given
-//! slopes and with a jump too, logs, sheets with holes, and books of fourteen rooms.
+//! slopes and with a jump too, logs, sheets with holes, tables of the pre-heater, and books of fourteen rooms.
 
 use independent::curves::{self, Numbers, Sheet};
 use independent::random::Random;
 use independent::reference;
 
 pub const KNOTS: usize = 64;
+/// Values of the pre-heater's tables, and parts to a step.
+pub const VALUES: usize = 20;
+pub const PARTS: u16 = 60;
 pub const ROOMS: u16 = 14;
 /// Cards, sheets and books of each kind.
 pub const INPUTS: usize = 16;
@@ -26,6 +29,7 @@ pub struct Inputs {
     pub jumping: Cards,
     pub logs: Vec<Vec<u8>>,
     pub sheets: Vec<Sheet>,
+    pub heats: Vec<Vec<i16>>,
     pub books: Vec<Vec<u8>>,
     pub short_card: Vec<u8>,
 }
@@ -92,6 +96,17 @@ fn sheet_with_holes(random: &mut Random) -> Sheet {
     }
 }
 
+/// A table of the pre-heater that goes up and down by some percents from value to value.
+fn heats(random: &mut Random) -> Vec<i16> {
+    let mut value = random.within(2000, 8000);
+    (0..VALUES)
+        .map(|_| {
+            value = (value + random.within(-600, 600)).clamp(0, 10_000);
+            value as i16
+        })
+        .collect()
+}
+
 /// A buffer as long as a book may be, with the rooms 1 to 14 and their cards.
 fn hall(cards: &[Vec<u8>], first: usize) -> Vec<u8> {
     let card = |room: u16| cards[(first + usize::from(room)) % cards.len()].clone();
@@ -111,5 +126,6 @@ pub fn inputs(random: &mut Random) -> Inputs {
     let given = mixed.numbers.iter().map(|card| with_slopes(random, card)).collect();
     let sloped = cards_of(random, given);
     let jumping = cards_of(random, mixed.numbers.iter().map(with_a_jump).collect());
-    Inputs { hours, mixed, sloped, jumping, logs, sheets, books, short_card }
+    let heats = (0..INPUTS).map(|_| heats(random)).collect();
+    Inputs { hours, mixed, sloped, jumping, logs, sheets, heats, books, short_card }
 }

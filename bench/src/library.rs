@@ -4,7 +4,7 @@
 //! a slice passes as its pointer and then its length, an answer comes back by value.
 
 pub use independent::boundary::{
-    Change, Checked, End, Explained, Fitted, Mean, Reading, Refitted, Spot, Swing, Tabled as Counted, Written,
+    Change, Checked, End, Explained, Fitted, Mean, Preheated, Reading, Refitted, Spot, Swing, Tabled as Counted, Written,
 };
 
 /// Minutes and ordinates.
@@ -24,6 +24,7 @@ pub trait Functions {
     fn table(&self, card: &[u8], from: u16, values: &mut [i32], slopes: &mut [i32], curvatures: &mut [i32]) -> Counted;
     fn explain(&self, card: &[u8], minute: u16) -> Explained;
     fn swing(&self, card: &[u8]) -> Swing;
+    fn preheat(&self, values: &[i16], parts: u16, count: u16) -> Preheated;
     fn refit(&self, card: &[u8], slopes: &mut [i32], curvatures: &mut [i32]) -> Refitted;
     fn mend(&self, minutes: &[u16], ordinates: &mut [i16], slopes: &mut [i32], curvatures: &mut [i32], changes: &mut [Change]) -> Counted;
     fn book_find(&self, book: &[u8], room: u16) -> Spot;
@@ -74,6 +75,7 @@ pub struct Library {
     table: unsafe extern "C" fn(*const u8, usize, u16, *mut i32, usize, *mut i32, usize, *mut i32, usize) -> Counted,
     explain: unsafe extern "C" fn(*const u8, usize, u16) -> Explained,
     swing: unsafe extern "C" fn(*const u8, usize) -> Swing,
+    preheat: unsafe extern "C" fn(*const i16, usize, u16, u16) -> Preheated,
     refit: unsafe extern "C" fn(*const u8, usize, *mut i32, usize, *mut i32, usize) -> Refitted,
     mend: unsafe extern "C" fn(*const u16, usize, *mut i16, usize, *mut i32, usize, *mut i32, usize, *mut Change, usize) -> Counted,
     book_find: unsafe extern "C" fn(*const u8, usize, u16) -> Spot,
@@ -220,6 +222,10 @@ impl Functions for Library {
 
     fn swing(&self, card: &[u8]) -> Swing {
         unsafe { (self.swing)(card.as_ptr(), card.len()) }
+    }
+
+    fn preheat(&self, values: &[i16], parts: u16, count: u16) -> Preheated {
+        unsafe { (self.preheat)(values.as_ptr(), values.len(), parts, count) }
     }
 
     fn refit(&self, card: &[u8], slopes: &mut [i32], curvatures: &mut [i32]) -> Refitted {

@@ -11,7 +11,7 @@ mod plain;
 
 use boost::{boost, Curve};
 use independent::random::Random;
-use inputs::{first_and_count, Cards, INPUTS, KNOTS, LOGS, ROOMS};
+use inputs::{first_and_count, Cards, INPUTS, KNOTS, LOGS, PARTS, ROOMS, VALUES};
 use library::{Change, End, Functions, Library};
 use plain::Plain;
 use std::hint::black_box;
@@ -246,6 +246,17 @@ fn main() {
         bench.line(name, mean_count(cards), INPUTS, |by| {
             Box::new(|i| {
                 black_box(by.swing(black_box(&cards.bytes[i])));
+            })
+        });
+    }
+    // A value each time from the table anew, at every count of it in turn.
+    for (name, values) in [("pre-heater's value, 20 values, 60 parts", VALUES), ("pre-heater's value, 3 values, 60 parts", 3)] {
+        let counts = PARTS * (values as u16 - 1) + 1;
+        bench.line(name, counts.into(), INPUTS, |by| {
+            Box::new(move |i| {
+                for count in 0..counts {
+                    black_box(by.preheat(black_box(&inputs.heats[i][..values]), black_box(PARTS), black_box(count)));
+                }
             })
         });
     }
