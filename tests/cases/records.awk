@@ -2,11 +2,11 @@
 
 BEGIN {
     FS = " *[|] *"
-    split("minutes ordinates slopes curvatures ends head left right minute log bytes length room changes places", names, " ")
+    split("minutes ordinates slopes curvatures ends head left right minute log bytes length room changes places values parts count place", names, " ")
     for (i in names) known[names[i]] = 1
     for (i = 1; i < 256; i++) character[sprintf("%c", i)] = i
     printed = 0; mean = 1; reading = 2; check = 3; swing = 4; fit = 5; fit_codes = 6; write = 7; read = 8; mend = 9
-    fit_slopes = 10; write_slopes = 11; explain = 12
+    fit_slopes = 10; write_slopes = 11; explain = 12; preheat = 13; unknown = 14
 }
 
 function fail(words) {
@@ -131,6 +131,7 @@ function settle(    name, i, parts, n) {
     if (given["places"]) must_have("places", 4)
     else for (i = 1; i <= 4; i++) value["places", i] = count["minutes"]
     for (i = 1; i <= 4; i++) if (value["places", i] > 66) fail("the program lends at most 66 places")
+    if (count["values"] > 66) fail("the program lends at most 66 places")
 }
 
 # ---- what is lent
@@ -142,16 +143,16 @@ function lent(name, many, size,    i, text) {
     return text
 }
 
-function all_of(name,    i, text) {
+function all_of(name, size,    i, text) {
     text = ""
-    for (i = 1; i <= count[name]; i++) text = text little(value[name, i], 1)
+    for (i = 1; i <= count[name]; i++) text = text little(value[name, i], size)
     return text
 }
 
 # The card's bytes, whatever they hold.
 function card(    text, i, n) {
     n = count["minutes"]
-    if (given["bytes"]) text = all_of("bytes")
+    if (given["bytes"]) text = all_of("bytes", 1)
     else {
         text = little(6, 2) little(number("head", 1), 2) little(n, 2) little(value["ends", 1], 2) little(value["ends", 2], 2)
         for (i = 1; i <= n; i++)
@@ -179,17 +180,23 @@ function lists_record(kind, left, right, rest) {
     record(kind, value["places", 1], value["places", 2], value["places", 3], value["places", 4], left, right, rest)
 }
 
+function values_record(kind, left, right) {
+    record(kind, 0, count["values"], 0, 0, left, right, all_of("values", 2))
+}
+
 function ended_record(kind, rest) {
     lists_record(kind, value["ends", 1], value["ends", 2], rest)
 }
 
 function ask(word,    x, y, m, c) {
     x = value["places", 1]; y = value["places", 2]; m = value["places", 3]; c = value["places", 4]
-    if (word == "mean") bytes_record(mean, number("minute", 0), all_of("log"))
+    if (word == "mean") bytes_record(mean, number("minute", 0), all_of("log", 1))
     else if (word == "reading") bytes_record(reading, number("minute", 0), card())
     else if (word == "check") bytes_record(check, 0, card())
     else if (word == "explain") bytes_record(explain, number("minute", 0), card())
     else if (word == "swing") bytes_record(swing, 0, card())
+    else if (word == "preheat") values_record(preheat, number("parts", 0), number("count", 0))
+    else if (word == "unknown") values_record(unknown, number("place", 0), 0)
     else if (word == "fit" && !given["ends"]) ended_record(fit, lent("minutes", x, 2) lent("ordinates", y, 2) sevens(m, 4) sevens(c, 4))
     else if (word == "fit")
         ended_record(fit_codes, lent("minutes", x, 2) lent("ordinates", y, 2) sevens(m, 4) sevens(c, 4) quotient(value["left", 1]) quotient(value["left", 2]) quotient(value["right", 1]) quotient(value["right", 2]))

@@ -181,6 +181,19 @@ fn mend(
     print::numbers(b"; curvatures", curvatures);
 }
 
+fn preheat(parts: u16, count: u16, values: &[i16]) {
+    let heated = preheat::value(values, parts, count);
+    print::verdict(b"preheat", heated.number, heated.place);
+    print::named(b"; value", heated.value);
+}
+
+fn unknown(place: u16, values: &[i16]) {
+    let answer = unknowns::unknown_at(values, place);
+    print::verdict(b"unknown", answer.number, answer.place);
+    print::wide(b"; unknown", answer.unknown);
+    print::wide(b"; scale", answer.scale);
+}
+
 // Whether a record of a kind asks about bytes.
 pub(crate) fn about_bytes(kind: u16) -> bool {
     kind < 5 || kind == 12
@@ -200,7 +213,8 @@ pub(crate) fn of_bytes(kind: u16, minute: u16, list: &[u8]) {
     }
 }
 
-// The questions about knots. In place of the left end's code, mending has how many places its list of changes has.
+// The questions about knots. In place of the left end's code, mending has how many places its list of changes
+// has; in place of both codes, the pre-heater has its parts and its count, an unknown its place.
 pub(crate) fn of_knots(
     kind: u16,
     left: u16,
@@ -230,6 +244,14 @@ pub(crate) fn of_knots(
         }
         11 => {
             write_slopes(minutes, ordinates, slopes, curvatures, list);
+            return;
+        }
+        13 => {
+            preheat(left, right, ordinates);
+            return;
+        }
+        14 => {
+            unknown(left, ordinates);
             return;
         }
         _ => {
