@@ -48,6 +48,10 @@ module _ (d : Entry) (lent : ℕ) (es : List Entry) where
 
 -- ---- by the slot that a walk found
 
+-- which ends before the closing record
+pub slot-inside : {r : ℕ} {s : List ℕ} {m : Slot} → Walks r s m → m .at + m .size + 4 ≤ m .bytes
+slot-inside {r} w = omega (arith, w .at, w .size, w .bytes, before-closing r (w .es))
+
 module _ {r : ℕ} {s : List ℕ} {m : Slot} (w : Walks r s m) (c : List ℕ) where
   abbrev d : Entry
   d = entry r c
@@ -56,13 +60,9 @@ module _ {r : ℕ} {s : List ℕ} {m : Slot} (w : Walks r s m) (c : List ℕ) wh
   unfolding _giving_
   made-of e = rw (w .is) e
 
-  -- the slot ends before the closing record
-  pub slot-inside : m .at + m .size + 4 ≤ m .bytes
-  slot-inside = omega (arith, w .at, w .size, w .bytes, before-closing r (w .es))
-
   -- "the book it would make"
   pub new-size : m .bytes - m .size + (6 + length c) ≡ size (put-in d (w .es))
-  new-size = omega (arith, slot-inside, w .size, w .bytes, size-put d (w .es))
+  new-size = omega (arith, slot-inside w, w .size, w .bytes, size-put d (w .es))
 
   pub new-least : 6 + length c ≤ size (put-in d (w .es))
   new-least = omega (arith, new-size)

@@ -57,6 +57,10 @@ run-bytes {s} {at} b (further {es = es} f t r) =
     let k : next s at + size es ≡ at + (long e + size es) = omega (arith, long-entry s at t) in
     entry-made s at b t ∙ ap (λ x. entry-bytes e ++ x) (run-bytes b r ∙ ap (λ i. book-bytes es ++ drop i s) k) ∙ sym (append-assoc (entry-bytes e) (book-bytes es) (drop (at + (long e + size es)) s))
 
+-- the whole of it, and what lies behind
+pub whole : {s : List ℕ} {es : List Entry} → Bytes s → Run s 0 es → s ≡ book-bytes es ++ drop (size es) s
+whole {s} {es} b r = let z : 0 + size es ≡ size es = omega arith in run-bytes b r ∙ ap (λ i. book-bytes es ++ drop i s) z
+
 -- ---- after a room is put in
 
 -- vs between the first x bytes and those from y on

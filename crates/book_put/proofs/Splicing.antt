@@ -14,7 +14,7 @@ use Rattle.book.proofs.Runs.{Run}
 use Rattle.book_put.specs.Put.{put-in}
 use Rattle.book_put.specs.Splice.{spliced}
 use Rattle.book_put.proofs.Placing.{size-put, before-closing}
-use Rattle.book_put.proofs.Bytes.{length-entry, length-book, run-bytes, around, put-bytes}
+use Rattle.book_put.proofs.Bytes.{length-entry, length-book, whole, around, put-bytes}
 
 -- what lies behind moves, then the new bytes are stored
 module _ (s : List ℕ) (at old used : ℕ) (vs : List ℕ) (n : ℕ) (e : length vs ≡ n) (l : at + old ≤ used) (h : used ≤ length s) (r : used + n ≤ length s + old) where
@@ -59,8 +59,6 @@ pub put-buffer : {s : List ℕ} {es : List Entry} → Bytes s → Run s 0 es →
 put-buffer {s} {es} b u d =
     let r = d .room in
     let l = before-closing r es in
-    let z : 0 + size es ≡ size es = omega arith in
-    let w : s ≡ book-bytes es ++ drop (size es) s = run-bytes b u ∙ ap (λ i. book-bytes es ++ drop i s) z in
     let n : before r es + (length (entry-bytes d) + (size es - (before r es + there r es))) ≡ size (put-in d es) = omega (arith, size-put d es, length-entry d) in
-    spliced-front s (book-bytes es) (drop (size es) s) (before r es) (there r es) (size es) w (length-book es) (omega arith) (entry-bytes d) (size (put-in d es)) n
+    spliced-front s (book-bytes es) (drop (size es) s) (before r es) (there r es) (size es) (whole b u) (length-book es) (omega arith) (entry-bytes d) (size (put-in d es)) n
     ∙ ap (λ t. t ++ drop (size (put-in d es)) s) (sym (put-bytes d es))

@@ -19,7 +19,7 @@ use Rattle.book.proofs.Standing.{holding, whole-holds, closes-within}
 use Rattle.book.proofs.Rooms.{Rises, nil as rises-nil}
 use Rattle.book.proofs.Runs.{Run, closed, further, sound, is-book}
 use Rattle.book_put.specs.Put.{entry}
-use Rattle.book_put.proofs.Bytes.{length-book, run-bytes}
+use Rattle.book_put.proofs.Bytes.{length-book, whole}
 use Rattle.bookkeeping.specs.Every.{Every, nil, cons, Two-bytes}
 
 -- ---- where the bytes of rooms stand
@@ -87,9 +87,7 @@ rooms-of-bytes {es} t f u l = is-book (record { run = bytes-run (book-bytes es +
 
 -- and a sound book is the bytes of its rooms
 pub bytes-of-rooms : (s : List ℕ) {es : List Entry} → Bytes s → book s ≡ given es → take (size es) s ≡ book-bytes es
-bytes-of-rooms s {es} b e =
-    let n : 0 + size es ≡ size es = omega arith in
-    ap (take (size es)) (run-bytes b (sound e .run) ∙ ap (λ i. book-bytes es ++ drop i s) n) ∙ take-at (book-bytes es) (drop (size es) s) (size es) (length-book es)
+bytes-of-rooms s {es} b e = ap (take (size es)) (whole b (sound e .run)) ∙ take-at (book-bytes es) (drop (size es) s) (size es) (length-book es)
 
 -- "A book with no room is sound": four bytes
 pub no-room : (t : List ℕ) → book (book-bytes [] ++ t) ≡ given []

@@ -38,7 +38,7 @@ splice-requires : tie.Need-splice-requires
 splice-requires c κs =
     let k = c .before .before .before .before .before .before .before in
     let w = walks k in
-    let x = slot-inside w (now (k .args .card)) in
+    let x = slot-inside w in
     let i = w .inside in
     (omega arith, omega arith, omega arith, omega arith)
 
@@ -56,7 +56,7 @@ put-at-spec =
     (tie.spec
     (λ c κs. search needs)
     returns
-    (λ c. let k = c .before .before .before .before in omega (arith, slot-inside (walks k) (now (k .args .card))))
+    (λ c. omega (arith, slot-inside (walks (c .before .before .before .before))))
     (λ c. search needs)
     (λ c. omega (arith, walks (c .before .before .before .before) .within))
     (λ c κs. search needs)

@@ -1,0 +1,4 @@
+pub mod Taking
+pub mod Closing
+pub mod Answers
+pub mod Examples
