@@ -25,7 +25,7 @@ use Rattle.bookkeeping.proofs.Inverse.{run-two-bytes, rooms-of-bytes}
 
 -- ---- a list of rooms into which one is put
 
-lower : {low least : ℕ} {es : List Entry} → least ≤ low → Rises low es → Rises least es
+pub lower : {low least : ℕ} {es : List Entry} → least ≤ low → Rises low es → Rises least es
 lower h rises-nil = rises-nil
 lower {least = least} h (rises-cons {e = e} l u) = let k : least ≤ e .room = omega arith in rises-cons k u
 
@@ -86,6 +86,9 @@ look-up-in q s = go (book s)
     go : (a : Answer (List Entry)) → (a giving λ es. held q es giving λ c. own c then given c) ≡ ((a giving held q) giving λ c. own c then given c)
     go (refused n p) = refl
     go (given es) = refl
+
+pub alike : (q : ℕ) (s t : List ℕ) → card-in q t ≡ card-in q s → look-up q t ≡ look-up q s
+alike q s t e = look-up-in q t ∙ ap (λ a. a giving λ k. own k then given k) e ∙ sym (look-up-in q s)
 
 -- ---- an accepted put
 
@@ -156,4 +159,4 @@ module _ (r : ℕ) (c s : List ℕ) (b : Bytes s) (l : r < 2 ^ 16) where
 
   -- so that looking it up gives what it gave before: number, place and card
   pub others-as-before : (q : ℕ) → q ≢ r → look-up q (after (put r c s) s) ≡ look-up q s
-  others-as-before q n = look-up-in q (after (put r c s) s) ∙ ap (λ a. a giving λ k. own k then given k) (cards-stay q n) ∙ sym (look-up-in q s)
+  others-as-before q n = alike q s _ (cards-stay q n)
