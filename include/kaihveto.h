@@ -18,7 +18,8 @@
    jump and is zero at both ends, the fourth may jump. Both codes of such a card are 0. Whatever takes a card
    takes either kind: the card's own bytes tell which it is.
 
-   A book holds the cards of a hall's rooms, each behind the number of its room (0 to 65,535).
+   A book holds the cards of a hall's rooms, each behind the number of its room (0 to 65,535). A card is put
+   in for a room, looked up, and taken out together with its room.
 
    The pre-heater has no card but a plain table: 3 to 20 values, whole hundredths from -20,000 to 20,000, one
    equal step apart.
@@ -66,7 +67,8 @@
      kaihveto_check             4,096     3,072   table              6,144     4,096
      kaihveto_book_find         4,096     3,072   fit, fit_ends     13,312    13,312
      kaihveto_book_put          4,096     3,072   fit_slopes        12,288    13,312
-     kaihveto_preheat             512       512   refit, mend       16,384    15,360
+     kaihveto_book_remove       1,024       128   refit, mend       16,384    15,360
+     kaihveto_preheat             512       512
 
    Time. A reading tests the whole card every time and only then looks up the minute, and so does an
    explanation: some 1 to 2 microseconds at 64 knots (docs/FIGURES.md, "Speed"). A controller that reads once
@@ -91,6 +93,8 @@ extern "C" {
    input gets another answer. MINOR rises where something is added and all else stays. kaihveto_version() gives the library's own
    version, 65536 times MAJOR plus MINOR: where it is not KAIHVETO_VERSION, the library and this header are of two states of the
    sources, and no other function is to be called.
+
+   6.3: kaihveto_book_remove is added.
 
    6.2: kaihveto_preheat is added, with the refusals 24 and 25.
 
@@ -128,7 +132,7 @@ extern "C" {
    2.0: kaihveto_mean answers the minute in the log's middle, where 1.2 answered the log's first, and has the refusal 19. Cards
    that were made with the first minutes lead the rooms by half a log, and are to be made anew. */
 #define KAIHVETO_VERSION_MAJOR 6
-#define KAIHVETO_VERSION_MINOR 2
+#define KAIHVETO_VERSION_MINOR 3
 #define KAIHVETO_VERSION (65536u * KAIHVETO_VERSION_MAJOR + KAIHVETO_VERSION_MINOR)
 
 uint32_t kaihveto_version(void);
@@ -208,8 +212,9 @@ enum kaihveto_number {
     KAIHVETO_NO_SOUND_KNOT = 17,       /* a hole with no sound knot on one side; place: the hole */
     KAIHVETO_TOO_FEW_CHANGES = 18,     /* fewer places in the list of changes than holes */
     KAIHVETO_LOG_TOO_LATE = 19,        /* the log's middle is behind minute 65,535 */
-    KAIHVETO_ROOM_NOT_THERE = 20,      /* the book has no card for that room */
-    KAIHVETO_BOOK_FULL = 21,           /* the book would be over 16,384 bytes or over its buffer */
+    KAIHVETO_ROOM_NOT_THERE = 20,      /* the book does not have that room, to look up or to take out */
+    KAIHVETO_BOOK_FULL = 21,           /* the book would be over 16,384 bytes or over its buffer; it has bytes
+                                          again when a room is taken out */
     KAIHVETO_ROOM_NOT_RISING = 22,     /* room not above the one before; place: its record's offset in the book */
     KAIHVETO_TOO_FEW_GOOD_BYTES = 23,  /* good bytes in the log, but fewer than half of its bytes */
     KAIHVETO_TOO_MANY_VALUES = 24,     /* more than 20 values of the pre-heater */
@@ -527,6 +532,23 @@ typedef struct {
 
 kaihveto_book_put_answer kaihveto_book_put(uint8_t *book, size_t book_length, uint16_t room,
                                            const uint8_t *card, size_t card_length);
+
+/* Takes a room out of a book, and its card with it. book_length is the length of the buffer in which the book
+   lies. On acceptance the records behind that room's have moved up into its place, the closing record with
+   them, and every other room has the card that it had, byte for byte. The answer has how many bytes the book
+   has then: 6 and those of its card for each room that is left, and 4. As many bytes as the room had are free
+   for the next card. Behind the new closing record nothing is written: the last bytes of the old book still
+   stand there, those of its closing record too. No card is tested, neither that room's nor another's, so that
+   a room with a damaged card can be taken out too, and a damaged card of another room stays as it is. Where a
+   card was put in for a room that the book did not have, taking that room out gives back the same book.
+   Refusals, in this order: 14 of the book's own records; 22; 20 where the book does not have that room. */
+typedef struct {
+    uint32_t number;
+    uint32_t place;
+    uint32_t bytes;
+} kaihveto_book_remove_answer;
+
+kaihveto_book_remove_answer kaihveto_book_remove(uint8_t *book, size_t book_length, uint16_t room);
 
 #ifdef __cplusplus
 }

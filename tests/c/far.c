@@ -278,6 +278,15 @@ int main(void) {
             drop(a), drop(e);
             break;
         }
+        case 'x': {
+            a = list(1);
+            uint64_t room = number();
+            kaihveto_book_remove_answer r = kaihveto_book_remove(a.first, a.length, (uint16_t)room);
+            give_answer(&r, sizeof r);
+            give_back(a);
+            drop(a);
+            break;
+        }
         default:
             return 1;
         }

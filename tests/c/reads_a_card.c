@@ -3,9 +3,9 @@
    reads it back, takes readings off it and explains one, and explains why the card is refused that has one
    curvature three units off; then fits document 000's Table 4 to its slopes and writes, checks, reads and
    changes that card; then a log's mean and a log with too few good bytes, a sheet with two holes
-   mended and put back, a book of three rooms with readings off the cards that it holds for two of them, and
-   the pre-heater's values between those of document 001's Table 2, times ten. What it prints is held against
-   reads_a_card.expected. */
+   mended and put back, a book of three rooms with readings off the cards that it holds for two of them, rooms
+   taken out of it, one of them with a damaged card, and the pre-heater's values between those of document
+   001's Table 2, times ten. What it prints is held against reads_a_card.expected. */
 
 #include <stdio.h>
 
@@ -32,6 +32,11 @@ static void print_explained(const char *name, kaihveto_explain_answer told)
 static void print_preheat(const char *name, kaihveto_preheat_answer heat)
 {
     printf("%s: %u at %u, value %d\n", name, heat.number, heat.place, heat.value);
+}
+
+static void print_removed(const char *name, kaihveto_book_remove_answer removed)
+{
+    printf("%s: %u at %u, %u bytes\n", name, removed.number, removed.place, removed.bytes);
 }
 
 static void print_card(const char *name, kaihveto_card_answer card)
@@ -200,6 +205,27 @@ int main(void)
     printf("put in for room 4, a byte short: %u at %u, %u bytes\n", put.number, put.place, put.bytes);
     put = kaihveto_book_put(book, sizeof book, 9, line, sizeof line);
     printf("put in for room 9, a shorter card: %u at %u, %u bytes\n", put.number, put.place, put.bytes);
+
+    const size_t full = put.bytes;
+    put = kaihveto_book_put(book, full, 4, line, sizeof line);
+    printf("put in for room 4, no byte left: %u at %u, %u bytes\n", put.number, put.place, put.bytes);
+    print_removed("room 5 taken out", kaihveto_book_remove(book, full, 5));
+    print_removed("room 5 taken out again", kaihveto_book_remove(book, full, 5));
+    found = kaihveto_book_find(book, full, 5);
+    printf("room 5: %u at %u, %u bytes from %u on\n", found.number, found.place, found.length, found.start);
+    found = kaihveto_book_find(book, full, 9);
+    printf("room 9: %u at %u, %u bytes from %u on\n", found.number, found.place, found.length, found.start);
+    put = kaihveto_book_put(book, full, 4, line, sizeof line);
+    printf("put in for room 4, in the bytes of room 5: %u at %u, %u bytes\n", put.number, put.place, put.bytes);
+    /* Room 3's card no longer starts as one. */
+    book[6] = 0;
+    found = kaihveto_book_find(book, full, 3);
+    printf("room 3, damaged: %u at %u, %u bytes from %u on\n", found.number, found.place, found.length, found.start);
+    print_removed("room 3 taken out", kaihveto_book_remove(book, full, 3));
+    print_removed("room 9 taken out, a byte short", kaihveto_book_remove(book, put.bytes - sizeof line - 6 - 1, 9));
+    print_removed("room 9 taken out", kaihveto_book_remove(book, full, 9));
+    print_removed("room 4 taken out", kaihveto_book_remove(book, full, 4));
+    printf("the book with no room: %02X %02X %02X %02X\n", book[0], book[1], book[2], book[3]);
 
     int16_t heats[10] = {2440, 2210, 2080, 2080, 2115, 2160, 2190, 2210, 2215, 2200};
     printf("pre-heater:");

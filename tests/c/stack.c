@@ -104,6 +104,15 @@ static uint32_t book_put(void) {
     return r.bytes == ROOMS * KAIHVETO_BOOK_ROOM_BYTES(KNOTS) + 4 ? number | r.number : 1;
 }
 
+/* The first room each time, so that all the others move up: of fifteen rooms the first call leaves fourteen
+   to the one that is measured. */
+static uint32_t book_remove(void) {
+    static uint16_t room = 1;
+    kaihveto_book_remove_answer r = kaihveto_book_remove(book, sizeof book, room);
+    uint32_t left = ROOMS + 1u - room++;
+    return r.bytes == left * KAIHVETO_BOOK_ROOM_BYTES(KNOTS) + 4 ? r.number : 1;
+}
+
 static void paint(void) {
     volatile uint8_t below[DEPTH];
     for (size_t i = 0; i < DEPTH; i++)
@@ -153,5 +162,7 @@ int main(void) {
         good &= kaihveto_book_put(book, sizeof book, room, card, sizeof card).number == 0;
     good &= line("book_find", book_find);
     good &= line("book_put", book_put);
+    good &= kaihveto_book_put(book, sizeof book, ROOMS + 1, card, sizeof card).number == 0;
+    good &= line("book_remove", book_remove);
     return good ? 0 : 1;
 }

@@ -27,18 +27,19 @@ ghost use Rattle.mend.specs.Order.{mend};
 ghost use Rattle.mend.specs.Promise.{Mends};
 ghost use Rattle.book.specs.Lookup.{spot};
 ghost use Rattle.book_put.specs.Put.{put, Puts};
+ghost use Rattle.book_remove.specs.Remove.{remove};
 ghost use Rattle.kaihveto.specs.Types.{Minutes, Room};
 ghost use Rattle.kaihveto.specs.Version.{version};
 
 // The boundary's version, as include/kaihveto.h names it.
 const MAJOR: u32 = 6;
 
-const MINOR: u32 = 2;
+const MINOR: u32 = 3;
 
 // The version in one number, so that a program can see that the library and the header which it was compiled with belong together.
 #[no_mangle]
 pub extern "C" fn kaihveto_version() -> u32
-    ensures { λ r. ⌜ r ≡ version 6 2 ⌝ }
+    ensures { λ r. ⌜ r ≡ version 6 3 ⌝ }
 {
     65536 * MAJOR + MINOR
 }
@@ -261,6 +262,15 @@ pub extern "C" fn kaihveto_book_put(book: &mut [u8], room: u16, card: &[u8]) -> 
     ensures typed { λ r. ⌜ Bytes (now (book .entry)) × Room room ⌝ }
 {
     book_put::put(book, room, card)
+}
+
+// A room taken out of a book: 14, 22, 20; no card is tested.
+#[no_mangle]
+pub extern "C" fn kaihveto_book_remove(book: &mut [u8], room: u16) -> book::Used
+    ensures { λ r. ⌜ Puts (remove room (now (book .entry))) (now (book .entry)) (now (book .exit)) r ⌝ }
+    ensures typed { λ r. ⌜ Bytes (now (book .entry)) × Room room ⌝ }
+{
+    book_remove::remove(book, room)
 }
 
 // A sheet with holes mended and fitted between free ends, with the changes at the front of a list: 3, 1, 2; per knot 4, 5, 6; 17; 18; 8; 9; 10.
