@@ -1,30 +1,26 @@
--- What the page says of books: the answers' numbers, places and zeros, what stays, what is found, and that no jump refuses a card near an exact solution. Document 02, order 3.
+-- What the page says of looking up in a book: the answer's number, place and zeros, the part that is handed back, and that no jump refuses a card near an exact solution; and which
+-- numbers the orders of a book never refuse with. Document 02, orders 3 and 11.
 -- Assumes nothing.
-use Prim.Native.Nat.{ℕ, zero, suc, _+_, _≤_, _<_, _^_}
+use Prim.Native.Nat.{ℕ, zero, suc, _+_}
 use mathlib.Core.Path.{_≡_, refl, sym, ap, subst, _∙_}
 use mathlib.Core.Logic.{_≢_}
 use mathlib.Core.Bool.{Bool, true, false, cond}
-use mathlib.Core.List.{List, [], _∷_, _++_}
+use mathlib.Core.List.{List, [], _∷_}
 use native.Mathlib.Omega.{arith}
 use lib.Dec.{eqb, lit<}
-use lib.ListN.{length, take, drop, length-append, length-drop}
-use lib.Seq.{take-at, drop-at}
+use lib.ListN.{length, take, drop}
 use Rattle.answer.specs.Answer.{Answer, refused, given, accepted, number, place, _then_}
 use Rattle.answer.proofs.Never.{Never, given-never, never-then, never-refuse, never-number}
-use Rattle.bytes.specs.Numbers.{Bytes}
 use Rattle.card.specs.Answers.{own}
-use Rattle.book.specs.Book.{Entry, entry-at, book-bytes, size, closes, holds, next, _giving_, scan, rising, book}
-use Rattle.book.specs.Lookup.{in-use, held, look-up, part, before, rooms, spot-at, spot}
+use Rattle.book.specs.Book.{Entry, entry-at, closes, holds, next, _giving_, scan, rising, book}
+use Rattle.book.specs.Lookup.{held, look-up, part, before, rooms, spot-at, spot}
 use Rattle.book.specs.declared.Spot.{Spot}
-use Rattle.book.specs.declared.Used.{Used}
 use Rattle.book.proofs.Answers.{handed, looked-up}
-use Rattle.book_put.specs.Put.{made, put, after, Puts}
-use Rattle.book_put.proofs.Bytes.{length-book}
+use Rattle.book_put.specs.Put.{made, put}
+use Rattle.book_remove.specs.Remove.{remove}
 use Rattle.bookkeeping.specs.Card.{card-in}
-use Rattle.kaihveto.specs.Types.{Room}
-use Rattle.bookkeeping.proofs.Kept.{was-put, put-is-book, put-is-found, cards-stay, others-as-before}
 use Rattle.demands.specs.Calls.{A-book-find, the-book, the-room}
-use Rattle.demands.specs.Demands.{Says, Spares, Holds-a-book, Hands-back, Half-a-unit-held}
+use Rattle.demands.specs.Demands.{Says, Hands-back, Half-a-unit-held}
 use Rattle.demands.proofs.Numbered.{says, card-numbered}
 use Rattle.demands.proofs.NeverTen.{own-never}
 
@@ -73,6 +69,10 @@ module _ (n : ℕ) where
     unfolding look-up _giving_
     look-up-never h r own-n = never-giving _ book-never (λ es e. never-giving _ (held-never h r es) (λ c q. never-then (own-n c (rw e q)) given-never))
 
+    pub remove-never : 20 ≢ n → (r : ℕ) → Never n (remove r s)
+    unfolding remove
+    remove-never h r = never-giving _ book-never (λ es e. never-giving _ (held-never h r es) (λ c q. given-never))
+
     pub put-never : 21 ≢ n → (r : ℕ) (c : List ℕ) → Never n (own c) → Never n (put r c s)
     unfolding put made
     put-never h r c own-n = never-giving _ book-never (λ es e. never-then own-n (never-then (never-refuse n 21 0 _ h) given-never))
@@ -94,78 +94,6 @@ find-answers room s e =
     let f = spot-fields (before room (rooms (book s)) + 6) v in
     let n = look-up-never 0 (λ z. omega arith) (λ z. omega arith) s (λ z. omega arith) room (λ c q. card-numbered c) in
     subst (λ r. Says v (r .number) (r .place) × No-spot r) (sym e) (says v n (f .0) (f .1), f .2)
-
-use-fields : (v : Answer (List Entry)) → (let r = in-use v in (r .number ≡ number v) × (r .place ≡ place v) × (r .number ≢ 0 → r .bytes ≡ 0))
-unfolding in-use number place
-use-fields (refused n p) = (refl, refl, λ h. refl)
-use-fields (given es) = (refl, refl, λ h. absurd (h refl))
-
-module _ (room : ℕ) (card : List ℕ) {entry exit : List ℕ} {r : Used} (puts : Puts (put room card entry) entry exit r) where
-  pub put-answers : Says (put room card entry) (r .number) (r .place) × (r .number ≢ 0 → r .bytes ≡ 0)
-  put-answers =
-      let v = put room card entry in
-      let f = use-fields v in
-      let n = put-never 0 (λ z. omega arith) (λ z. omega arith) entry (λ z. omega arith) room card (card-numbered card) in
-      subst (λ r. Says v (r .number) (r .place) × (r .number ≢ 0 → r .bytes ≡ 0)) (sym (puts .answer)) (says v n (f .0) (f .1), f .2)
-
-  -- what an accepted put has in use
-  in-use-is : {es : List Entry} → put room card entry ≡ given es → r .bytes ≡ size es
-  unfolding in-use
-  in-use-is e = ap (λ u. u .bytes) (puts .answer ∙ ap in-use e)
-
-  -- the buffer is what it was, or the new book over its front
-  as-it-was : {n p : ℕ} → put room card entry ≡ refused n p → exit ≡ entry
-  unfolding after
-  as-it-was e = puts .buffer ∙ ap (λ a. after a entry) e
-
-  new-front : {es : List Entry} → put room card entry ≡ given es → exit ≡ book-bytes es ++ drop (size es) entry
-  unfolding after
-  new-front e = puts .buffer ∙ ap (λ a. after a entry) e
-
-  pub put-spares : Spares (r .number) (r .bytes) entry exit
-  put-spares = record { refused = stays (put room card entry) refl; given = λ z. let g = put-answers .0 .accepts z in writes (g .what) (g .is) }
-    where
-      stays : (a : Answer (List Entry)) → put room card entry ≡ a → r .number ≢ 0 → exit ≡ entry
-      stays (refused n p) e h = as-it-was e
-      stays (given es) e h = absurd (h (put-answers .0 .accepted (record { what = es; is = e })))
-
-      writes : (es : List Entry) → put room card entry ≡ given es → (length exit ≡ length entry) × (drop (r .bytes) exit ≡ drop (r .bytes) entry)
-      writes es e =
-          let p = was-put room card entry e in
-          let n : size es ≤ length entry = rw (p .new) at (p .room) in
-          let k = length-book es in
-          let u = in-use-is e in (
-            ap length (new-front e) ∙ simp (length-append, length-drop) (omega arith),
-            rw u (ap (drop (size es)) (new-front e) ∙ drop-at (book-bytes es) (drop (size es) entry) (size es) k),
-          )
-
-  module _ (b : Bytes entry) (t : Room room) where
-    l : room < 2 ^ 16
-    unfolding Room
-    l = t
-
-    left : after (put room card entry) entry ≡ exit
-    left = sym (puts .buffer)
-
-    pub leaves-a-book : r .number ≡ 0 → Holds-a-book (r .bytes) exit
-    leaves-a-book z =
-        let g = put-answers .0 .accepts z in
-        let u = in-use-is (g .is) in
-        record {
-          rooms = g .what;
-          is = subst (λ t. book t ≡ given (g .what)) left (put-is-book room card entry b l (g .is));
-          in-use = u;
-          bytes = ap (λ i. take i exit) u ∙ (ap (take (size (g .what))) (new-front (g .is)) ∙ take-at (book-bytes (g .what)) (drop (size (g .what)) entry) (size (g .what)) (length-book (g .what)));
-        }
-
-    pub is-found : r .number ≡ 0 → look-up room exit ≡ given card
-    is-found z = subst (λ t. look-up room t ≡ given card) left (put-is-found room card entry b l (put-answers .0 .accepts z .is))
-
-    pub others-cards : (q : ℕ) → q ≢ room → card-in q exit ≡ card-in q entry
-    others-cards q n = subst (λ t. card-in q t ≡ card-in q entry) left (cards-stay room card entry b l q n)
-
-    pub others-found : (q : ℕ) → q ≢ room → look-up q exit ≡ look-up q entry
-    others-found q n = subst (λ t. look-up q t ≡ look-up q entry) left (others-as-before room card entry b l q n)
 
 -- ---- the part that is handed back
 
@@ -198,6 +126,9 @@ handed-back c =
 
 pub find-never : (room : ℕ) (s : List ℕ) → ((c : List ℕ) → card-in room s ≡ given c → Half-a-unit-held c) → number (look-up room s) ≢ 10
 find-never room s half = never-number _ (lit< tt) (look-up-never 10 (λ z. omega arith) (λ z. omega arith) s (λ z. omega arith) room (λ c q. own-never c (half c q)))
+
+pub removes-never : (room : ℕ) (s : List ℕ) → number (remove room s) ≢ 10
+removes-never room s = never-number _ (lit< tt) (remove-never 10 (λ z. omega arith) (λ z. omega arith) s (λ z. omega arith) room)
 
 pub puts-never : (room : ℕ) (card s : List ℕ) → Half-a-unit-held card → number (put room card s) ≢ 10
 puts-never room card s half = never-number _ (lit< tt) (put-never 10 (λ z. omega arith) (λ z. omega arith) s (λ z. omega arith) room card (own-never card half))

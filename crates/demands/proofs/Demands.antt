@@ -28,7 +28,7 @@ use Rattle.exists.specs.Sound.{Sound}
 use Rattle.slope_fit.specs.SlopesFit.{standing}
 use Rattle.sloped.specs.Sloped as Sloped
 use Rattle.sloped.proofs.Sloped.{one-solution, within-two}
-use Rattle.demands.specs.Calls.{A-fit, A-fit-between, A-fit-slopes, without-ends, between-ends, by-slopes, sloped-card, buffer, A-check, checked-bytes, read-bytes, places, reading-bytes, minute, A-table, table-bytes, from, lists-for, lists-for′, swing-bytes, explained-bytes, explained-minute, heat-values, heat-parts, heat-count, first-minute, log, sheet-minutes, sheet, A-book-find, the-book, the-room, the-part, A-book-put, put-book, put-book′, put-room, put-card}
+use Rattle.demands.specs.Calls.{A-fit, A-fit-between, A-fit-slopes, without-ends, between-ends, by-slopes, sloped-card, buffer, A-check, checked-bytes, read-bytes, places, reading-bytes, minute, A-table, table-bytes, from, lists-for, lists-for′, swing-bytes, explained-bytes, explained-minute, heat-values, heat-parts, heat-count, first-minute, log, sheet-minutes, sheet, A-book-find, the-book, the-room, the-part, A-book-put, put-book, put-book′, put-room, put-card, A-book-remove, out-book, out-book′, out-room, A-change, by-put, by-removal, changed-book, changed-book′, changed-room}
 use Rattle.demands.specs.Demands.{Fit-says, Off, before-8-of-slopes, Demand-1, Demand-2, Demand-3, Demands}
 use Rattle.fit.proofs.Numbered.{codes-numbered}
 use Rattle.demands.proofs.Numbered.{accepts}
@@ -39,7 +39,9 @@ use Rattle.demands.proofs.Given.{eliminates, mean-given}
 use Rattle.demands.proofs.FitToCard.{default-rests, default-is-kept, between-is-kept, sloped-passes, kept, read-back}
 use Rattle.demands.proofs.Anew.{fresh-eliminates, fresh-is-kept}
 use Rattle.demands.proofs.MendedSheet.{mend-answers, mend-spares, mend-eliminates, one-mended-solution, mended-is-kept, mend-lists, mend-put-back}
-use Rattle.demands.proofs.Books.{find-answers, put-answers, put-spares, leaves-a-book, is-found, others-cards, others-found, part-is, part-passes, handed-back, find-never, puts-never}
+use Rattle.demands.proofs.Books.{find-answers, part-is, part-passes, handed-back, find-never, removes-never, puts-never}
+use Rattle.demands.proofs.Changing.{change-answers, change-spares, change-leaves-a-book, others-cards, others-found}
+use Rattle.demands.proofs.Sequences.{is-found, is-gone, by-bytes-in-use, freed-is-used, put-and-out, history}
 use Rattle.demands.proofs.RoundTrip.{written-accepted, written-held, written-headed, accepted-as, accepts-its-card, reads-its-card, made-again}
 use Rattle.demands.proofs.Off.{stands-on-a-gap, of-card, within-2, flat-ends, close, at-knots, looks, gap-left, on-its-card, in-table, table-counted}
 use Rattle.demands.proofs.Swung.{swings}
@@ -97,9 +99,9 @@ one =
       mend-spares = mend-spares;
       book-find = λ c. find-answers (the-room c) (the-book c) (c .promised) .0;
       book-find-zeros = λ c. find-answers (the-room c) (the-book c) (c .promised) .1;
-      book-put = λ c. put-answers (put-room c) (put-card c) (c .promised .0) .0;
-      book-put-zeros = λ c. put-answers (put-room c) (put-card c) (c .promised .0) .1;
-      book-put-spares = λ c. put-spares (put-room c) (put-card c) (c .promised .0);
+      book-change = λ c. change-answers c .0;
+      book-change-zeros = λ c. change-answers c .1;
+      book-change-spares = change-spares;
     }
 
 -- ---- 2
@@ -117,13 +119,19 @@ finds f e =
 found-again : (p : A-book-put) (f : A-book-find) → p .answer .number ≡ 0 → the-book f ≡ put-book′ p → the-room f ≡ put-room p → (f .answer .number ≡ 0) × (the-part f ≡ put-card p)
 unfolding number part
 found-again p f zero same room =
-    let w = finds f (ap₂ look-up room same ∙ is-found (put-room p) (put-card p) (p .promised .0) (p .promised .1 .0) (p .promised .1 .1) zero) in
+    let w = finds f (ap₂ look-up room same ∙ is-found p zero) in
     (w .0, w .2)
 
-found-as-before : (p : A-book-put) (f g : A-book-find) → the-book f ≡ put-book p → the-book g ≡ put-book′ p → the-room g ≡ the-room f → the-room f ≢ put-room p
+gone : (c : A-book-remove) (f : A-book-find) → c .answer .number ≡ 0 → the-book f ≡ out-book′ c → the-room f ≡ out-room c → (f .answer .number ≡ 20) × (f .answer .place ≡ 0)
+unfolding number place
+gone c f zero same room =
+    let w = finds f (ap₂ look-up room same ∙ is-gone c zero) in
+    (w .0, w .1)
+
+found-as-before : (c : A-change) (f g : A-book-find) → the-book f ≡ changed-book c → the-book g ≡ changed-book′ c → the-room g ≡ the-room f → the-room f ≢ changed-room c
     → (g .answer .number ≡ f .answer .number) × (g .answer .place ≡ f .answer .place) × (the-part g ≡ the-part f)
-found-as-before p f g same same′ room other =
-    let e = ap₂ look-up room same′ ∙ others-found (put-room p) (put-card p) (p .promised .0) (p .promised .1 .0) (p .promised .1 .1) (the-room f) other ∙ ap (look-up (the-room f)) (sym same) in
+found-as-before c f g same same′ room other =
+    let e = ap₂ look-up room same′ ∙ others-found c (the-room f) other ∙ ap (look-up (the-room f)) (sym same) in
     let w = finds g e in
     let v = finds f refl in
     (w .0 ∙ sym (v .0), w .1 ∙ sym (v .1), w .2 ∙ sym (v .2))
@@ -157,11 +165,16 @@ two =
           let is = accepted-as (kind-by s) (card-of s) (c .promised .0) (tested c zero) in
           made-again s (c .promised .1) (tested c zero) (same-head (known-writer w) (known-by s) (told ∙ is .kind))
           (again ∙ reads-its-card (r .promised) (accepts (read-answers (r .promised) .0) read-zero) ∙ ap card-of same) (promises w .0) long;
-      put-leaves-a-book = λ p zero. leaves-a-book (put-room p) (put-card p) (p .promised .0) (p .promised .1 .0) (p .promised .1 .1) zero;
+      change-leaves-a-book = change-leaves-a-book;
       put-is-found = found-again;
+      removed-is-gone = gone;
       hands-back = handed-back;
-      cards-stay = λ p q n. others-cards (put-room p) (put-card p) (p .promised .0) (p .promised .1 .0) (p .promised .1 .1) q n;
+      cards-stay = others-cards;
       others-as-before = found-as-before;
+      put-by-bytes-in-use = by-bytes-in-use;
+      freed-is-used = freed-is-used;
+      put-and-out = put-and-out;
+      history = λ empty calls f same. finds f (ap (look-up (the-room f)) same ∙ history empty calls (the-room f));
     }
 
 -- ---- 3
@@ -231,7 +244,8 @@ three =
       swing-never-10 = λ c half e. checked-never (swing-bytes c) half (sym (one .swing c .number) ∙ e);
       explain-never-10 = λ c half e. read-off-never (explained-bytes c) half (explained-minute c) (sym (one .explain c .number) ∙ e);
       book-find-never-10 = λ c half e. find-never (the-room c) (the-book c) half (sym (one .book-find c .number) ∙ e);
-      book-put-never-10 = λ c half e. puts-never (put-room c) (put-card c) (put-book c) half (sym (one .book-put c .number) ∙ e);
+      book-put-never-10 = λ c half e. puts-never (put-room c) (put-card c) (put-book c) half (sym (one .book-change (by-put c) .number) ∙ e);
+      book-remove-never-10 = λ c e. removes-never (out-room c) (out-book c) (sym (one .book-change (by-removal c) .number) ∙ e);
       fit-never-10 = λ c half e. fitted-never (without-ends c) given-never half (sym (fits c .number) ∙ e);
       fit-between-never-10 = λ c half e. fitted-never (between-ends c) (codes-never quintic _ _) half (sym (fits-between c .number) ∙ e);
       fit-slopes-never-10 = λ c half e. fitted-never (by-slopes c) given-never half (sym (fits-to-slopes c .number) ∙ e);

@@ -2,7 +2,7 @@
 -- ends, between free ends and to Table 3's slopes, whose card is written and told as of kind 6; its card is
 -- accepted by the writer, its bytes by the card test, the reader, a reading, a table, the swing, an
 -- explanation and the fresh fit, and it is within half a unit of an exact solution, as are the numbers of
--- these fits; it is put into a book and found there. P7's knots with a hole are mended, P8's log has a
+-- these fits; it is put into a book, found there and taken out. P7's knots with a hole are mended, P8's log has a
 -- mean, and the pre-heater has document 001's example. Assumes nothing.
 use mathlib.Core.Path.{_≡_, refl, sym, ap, ap₂, _∙_, subst}
 use mathlib.Core.Logic.{inl, inr}
@@ -12,7 +12,8 @@ use native.Mathlib.Omega.{arith}
 use borrow.Author.Tests.{le-ltb}
 use lib.Dec.{lit<, lit≤}
 use lib.IntN.{ℤ, pos}
-use lib.ListN.{length, getD, length-append}
+use lib.ListN.{length, getD, drop, length-append}
+use lib.Seq.{getD-drop}
 use base.Fml.{Lft, GName}
 use denote.Ref.{RefT}
 use Rattle.answer.specs.Answer.{Answer, refused, given, accepted, _then_, refuse, number}
@@ -70,14 +71,17 @@ use Rattle.refit.proofs.Unchanged.{free-is-fit-between}
 use Rattle.bytes.specs.Numbers.{le, Bytes}
 use Rattle.bytes.proofs.Numbers.{length-le, bytes-append, le-bytes}
 use Rattle.record.specs.Record.{header}
-use Rattle.book.specs.Book.{book-bytes, size as book-size, _giving_}
-use Rattle.book.specs.Lookup.{in-use, spot}
+use Rattle.book.specs.Book.{entry-bytes, book-bytes, size as book-size, _giving_, book}
+use Rattle.book.specs.Lookup.{in-use, held, part, spot}
 use Rattle.book_put.specs.Put as Put
 use Rattle.book_put.specs.Put.{entry, put-in, after}
 use Rattle.book_put.proofs.Answers.{fits}
+use Rattle.bookkeeping.specs.Card as Book-card
 use Rattle.bookkeeping.proofs.Inverse.{no-room}
+use Rattle.book_remove.specs.Remove.{remove}
 use Rattle.kaihveto.specs.Types.{Minutes, Room}
-use Rattle.demands.specs.Calls.{A-mean, A-fit, A-fit-between, A-fit-slopes, without-ends, between-ends, card-between, by-slopes, worked-out, A-write, A-write-slopes, with-codes, with-slopes, written-card, A-check, A-read, A-reading, A-table, A-swing, A-explain, A-preheat, fresh-job, A-refit, anew, A-mend, of-the-mended, A-book-put, A-book-find}
+use Rattle.demands.specs.Calls.{A-mean, A-fit, A-fit-between, A-fit-slopes, without-ends, between-ends, card-between, by-slopes, worked-out, A-write, A-write-slopes, with-codes, with-slopes, written-card, A-check, A-read, A-reading, A-table, A-swing, A-explain, A-preheat, fresh-job, A-refit, anew, A-mend, of-the-mended, A-book-find, the-part, A-book-put, put-book′, A-book-remove, out-book′, by-put, by-removal}
+use Rattle.demands.specs.Changes.{more, none, Changes, last-card}
 use Rattle.demands.specs.Demands.{Is-given, Room-for, On-the-card, Half-a-unit, Half-a-unit-held}
 use Rattle.demands.proofs.Numbers.{typed}
 use Rattle.demands.proofs.Jobs as Jobs
@@ -221,9 +225,13 @@ tables =
 abbrev empty-book : List ℕ
 empty-book = book-bytes [] ++ (bytes ++ le 6 0)
 
+header-typed : (kind n : ℕ) → Bytes (header kind n)
+unfolding header
+header-typed kind n = bytes-append (le 2 n) (le 2 kind) (le-bytes 2 n) (le-bytes 2 kind)
+
 pub empty-typed : Bytes empty-book
-unfolding book-bytes header
-empty-typed = bytes-append (le 2 0 ++ le 2 3) (bytes ++ le 6 0) (bytes-append (le 2 0) (le 2 3) (le-bytes 2 0) (le-bytes 2 3)) (bytes-append bytes (le 6 0) (card-bytes quintic p1) (le-bytes 6 0))
+unfolding book-bytes
+empty-typed = bytes-append (header 3 0) (bytes ++ le 6 0) (header-typed 3 0) (bytes-append bytes (le 6 0) (card-bytes quintic p1) (le-bytes 6 0))
 
 pub room-typed : Room 3
 unfolding Room
@@ -235,6 +243,23 @@ puts =
     let n : length empty-book ≡ 104 = simp (length-append, length-le, length-card) (omega arith) in
     let k : length bytes ≡ 94 = length-card quintic p1 in
     rw (no-room (bytes ++ le 6 0)) (both-accept bytes-accepted (fits (entry 3 bytes) (length empty-book) [] (omega arith) (omega arith)))
+
+-- the room is not there before, and what the put leaves is bytes
+absent : Book-card.card-in 3 empty-book ≡ refused 20 0
+unfolding _giving_ held
+absent = rw (no-room (bytes ++ le 6 0))
+
+bytes-behind : (n : ℕ) (s : List ℕ) → Bytes s → Bytes (drop n s)
+unfolding Bytes
+bytes-behind n s h i = rw (getD-drop n s i 0) (h (n + i))
+
+pub left-typed : Bytes (after (Put.put 3 bytes empty-book) empty-book)
+unfolding after book-bytes entry-bytes
+left-typed =
+    let n = 2 + length bytes in
+    let room = bytes-append (header 5 n ++ le 2 3) bytes (bytes-append (header 5 n) (le 2 3) (header-typed 5 n) (le-bytes 2 3)) (card-bytes quintic p1) in
+    let all = bytes-append (entry-bytes (entry 3 bytes)) (header 3 0) room (header-typed 3 0) in
+    rw puts (bytes-append (book-bytes (entry 3 bytes ∷ [])) _ all (bytes-behind (book-size (entry 3 bytes ∷ [])) empty-book empty-typed))
 
 module _ (lifetime : Lft) (pointer : ℕ × ℕ) (name : GName) where
   abbrev list : {A : Type 0} → List A → RefT (List A)
@@ -551,3 +576,39 @@ module _ (lifetime : Lft) (pointer : ℕ × ℕ) (name : GName) where
 
   pub find-accepts : find-call .answer .number ≡ 0
   find-accepts = hold-all .two .put-is-found put-call find-call put-accepts refl refl .0
+
+  -- and from there it is taken out again
+  abbrev pub remove-call : A-book-remove
+  remove-call =
+      let s = put-book′ put-call in
+      let v = remove 3 s in
+      record {
+        lifetimes = (lifetime, tt);
+        arguments = (list s, (3, tt));
+        answer = in-use v;
+        exit = (list (after v s), (3, tt));
+        promised = (record { answer = refl; buffer = refl }, (left-typed, room-typed));
+      }
+
+  -- which leaves the book of no room, of 4 bytes
+  pub removes : (remove-call .answer .number ≡ 0) × (book (out-book′ remove-call) ≡ given []) × (remove-call .answer .bytes ≡ 4)
+  unfolding in-use book-size
+  removes =
+      let o = hold-all .two .put-and-out put-call remove-call put-accepts absent refl refl in
+      (o .0, o .1 ∙ no-room (bytes ++ le 6 0), o .2 ∙ ap (λ v. in-use v .bytes) (no-room (bytes ++ le 6 0)))
+
+  -- one after the other: after the put the room has the card, and after the removal none
+  abbrev once : Changes empty-book (put-book′ put-call)
+  once = more (by-put put-call) refl none
+
+  abbrev pub twice : Changes empty-book (out-book′ remove-call)
+  twice = more (by-removal remove-call) refl once
+
+  pub last-cards : (last-card 3 once ≡ given bytes) × (last-card 4 once ≡ refused 20 0) × (last-card 3 twice ≡ refused 20 0)
+  unfolding last-card
+  last-cards = (rw put-accepts, rw put-accepts, rw (removes .0))
+
+  -- and so the search in what the put left gives the card
+  pub found-by-history : the-part find-call ≡ bytes
+  unfolding part
+  found-by-history = hold-all .two .history (no-room (bytes ++ le 6 0)) once find-call refl .2 ∙ ap part (last-cards .0)

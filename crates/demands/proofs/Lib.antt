@@ -11,6 +11,8 @@ pub mod Heated
 pub mod NeverTen
 pub mod Given
 pub mod Books
+pub mod Changing
+pub mod Sequences
 pub mod Demands
 pub mod FitToCard
 pub mod Anew

@@ -32,6 +32,10 @@ use Rattle.card.specs.Promise.{Lists, lists}
 use Rattle.lines.specs.Lines.{hundredths}
 use Rattle.table.specs.Promise.{Columns, columns}
 use Rattle.writer.specs.declared.Written.{Written}
+use Rattle.book.specs.Book.{Entry}
+use Rattle.book.specs.declared.Used.{Used}
+use Rattle.book_put.specs.Put as Put
+use Rattle.book_remove.specs.Remove as Remove
 use Rattle.kaihveto.proofs.kaihveto_mean.Reads as mean
 use Rattle.kaihveto.proofs.kaihveto_fit.Reads as fit
 use Rattle.kaihveto.proofs.kaihveto_fit_ends.Reads as fit-ends
@@ -48,6 +52,7 @@ use Rattle.kaihveto.proofs.kaihveto_preheat.Reads as preheat
 use Rattle.kaihveto.proofs.kaihveto_refit.Reads as refit
 use Rattle.kaihveto.proofs.kaihveto_book_find.Reads as book-find
 use Rattle.kaihveto.proofs.kaihveto_book_put.Reads as book-put
+use Rattle.kaihveto.proofs.kaihveto_book_remove.Reads as book-remove
 use Rattle.kaihveto.proofs.MendReads as mend
 
 -- a call that meets a promise: of lifetimes, arguments, the answer, and the parameters at exit
@@ -457,3 +462,43 @@ put-room c = c .arguments .1 .0
 
 abbrev pub put-card : A-book-put → List ℕ
 put-card c = now (c .arguments .1 .1 .0)
+
+-- ---- kaihveto_book_remove(book, room)
+
+abbrev pub A-book-remove : Type 0
+A-book-remove = Call book-remove.Post
+
+abbrev pub out-book : A-book-remove → List ℕ
+out-book c = now (c .arguments .0)
+
+abbrev pub out-book′ : A-book-remove → List ℕ
+out-book′ c = now (c .exit .0)
+
+abbrev pub out-room : A-book-remove → ℕ
+out-room c = c .arguments .1 .0
+
+-- a call of either: it changes a book
+pub data A-change : Type 0 where
+  by-put : A-book-put → A-change
+  by-removal : A-book-remove → A-change
+
+abbrev pub changed-book : A-change → List ℕ
+changed-book (by-put c) = put-book c
+changed-book (by-removal c) = out-book c
+
+abbrev pub changed-book′ : A-change → List ℕ
+changed-book′ (by-put c) = put-book′ c
+changed-book′ (by-removal c) = out-book′ c
+
+abbrev pub changed-room : A-change → ℕ
+changed-room (by-put c) = put-room c
+changed-room (by-removal c) = out-room c
+
+abbrev pub change-answer : A-change → Used
+change-answer (by-put c) = c .answer
+change-answer (by-removal c) = c .answer
+
+-- the order by which it is answered
+abbrev pub the-change : A-change → Answer (List Entry)
+the-change (by-put c) = Put.put (put-room c) (put-card c) (put-book c)
+the-change (by-removal c) = Remove.remove (out-room c) (out-book c)

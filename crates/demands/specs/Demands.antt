@@ -44,11 +44,12 @@ use Rattle.preheat.specs.Demand.{On-cubic}
 use Rattle.mend.specs.Changes.{restored}
 use Rattle.mending.specs.Listed.{Lists-the-holes}
 use Rattle.refit.specs.Fresh as Fresh
-use Rattle.book.specs.Book.{Entry, book-bytes, size, book}
-use Rattle.book.specs.Lookup.{look-up}
-use Rattle.book_put.specs.Put as Put
+use Rattle.book.specs.Book.{Entry, book-bytes, book}
+use Rattle.book.specs.Lookup.{in-use, look-up, part}
 use Rattle.bookkeeping.specs.Card.{card-in}
-use Rattle.demands.specs.Calls.{A-mean, first-minute, log, A-fit, A-fit-between, A-fit-slopes, Fitting, without-ends, fitted-card, between-ends, card-between, by-slopes, sloped-card, slopes-by, curvatures-by, the-fit, worked-out, A-writing, written-kind, written-card, buffer, buffer′, write-answer, A-check, checked-bytes, A-read, read-bytes, places, places′, A-reading, reading-bytes, minute, three, A-table, table-bytes, from, lists-for, lists-for′, row, A-swing, swing-bytes, A-explain, explained-bytes, explained-minute, A-preheat, heat-values, heat-parts, heat-count, A-refit, refit-bytes, fresh-slopes, fresh-curvatures, fresh-slopes′, fresh-curvatures′, old-card, anew, fresh-card, A-mend, sheet-minutes, sheet, sheet′, change-list, change-list′, of-the-mended, mended-card, the-mending, A-book-find, the-book, the-room, the-part, A-book-put, put-book, put-book′, put-room, put-card}
+use Rattle.history.specs.InUse.{in-use-by, then-in-use, full}
+use Rattle.demands.specs.Calls.{A-mean, first-minute, log, A-fit, A-fit-between, A-fit-slopes, Fitting, without-ends, fitted-card, between-ends, card-between, by-slopes, sloped-card, slopes-by, curvatures-by, the-fit, worked-out, A-writing, written-kind, written-card, buffer, buffer′, write-answer, A-check, checked-bytes, A-read, read-bytes, places, places′, A-reading, reading-bytes, minute, three, A-table, table-bytes, from, lists-for, lists-for′, row, A-swing, swing-bytes, A-explain, explained-bytes, explained-minute, A-preheat, heat-values, heat-parts, heat-count, A-refit, refit-bytes, fresh-slopes, fresh-curvatures, fresh-slopes′, fresh-curvatures′, old-card, anew, fresh-card, A-mend, sheet-minutes, sheet, sheet′, change-list, change-list′, of-the-mended, mended-card, the-mending, A-book-find, the-book, the-room, the-part, A-book-put, put-book, put-book′, put-room, put-card, A-book-remove, out-book, out-book′, out-room, A-change, changed-book, changed-book′, changed-room, change-answer, the-change}
+use Rattle.demands.specs.Changes.{Changes, last-card}
 
 -- ---- 1. "Every input gets an answer: bad knots, logs, cards and minutes are refused by number and place, the numbers beside a refusal are zero, and lent memory stays untouched."
 
@@ -113,8 +114,8 @@ pub record Demand-1 : Type 0 where
   pub mend : (c : A-mend) → Says (the-mending c) (c .answer .number) (c .answer .place)
   -- 14, 22, 20, then the card's own
   pub book-find : (c : A-book-find) → Says (look-up (the-room c) (the-book c)) (c .answer .number) (c .answer .place)
-  -- 14, 22, the new card's own, 21
-  pub book-put : (c : A-book-put) → Says (Put.put (put-room c) (put-card c) (put-book c)) (c .answer .number) (c .answer .place)
+  -- 14, 22; then of a put the new card's own and 21, of a removal 20 and no card's
+  pub book-change : (c : A-change) → Says (the-change c) (change-answer c .number) (change-answer c .place)
   -- "the numbers beside a refusal are zero"
   pub mean-zeros : (c : A-mean) → c .answer .number ≢ 0 → (c .answer .minute ≡ 0) × (c .answer .ordinate ≡ pos 0) × (c .answer .good ≡ 0) × (c .answer .faults ≡ 0)
   pub write-zeros : (w : A-writing) → write-answer w .number ≢ 0 → write-answer w .bytes ≡ 0
@@ -130,7 +131,7 @@ pub record Demand-1 : Type 0 where
   pub refit-zeros : (c : A-refit) → c .answer .number ≢ 0 → (c .answer .knots ≡ 0) × (c .answer .changed ≡ 0)
   pub mend-zeros : (c : A-mend) → c .answer .number ≢ 0 → c .answer .count ≡ 0
   pub book-find-zeros : (c : A-book-find) → c .answer .number ≢ 0 → (c .answer .start ≡ 0) × (c .answer .length ≡ 0)
-  pub book-put-zeros : (c : A-book-put) → c .answer .number ≢ 0 → c .answer .bytes ≡ 0
+  pub book-change-zeros : (c : A-change) → change-answer c .number ≢ 0 → change-answer c .bytes ≡ 0
   -- "and lent memory stays untouched"; on acceptance only the n places, the card's bytes or the places of the readings are written
   pub fit-spares : (c : A-fit) → Fit-spares (without-ends c)
   pub fit-between-spares : (c : A-fit-between) → Fit-spares (between-ends c)
@@ -153,7 +154,7 @@ pub record Demand-1 : Type 0 where
       Spares (c .answer .number) (length (sheet-minutes c)) (sheet c) (sheet′ c)
       × Fit-spares (of-the-mended c)
       × Spares (c .answer .number) (c .answer .count) (change-list c) (change-list′ c)
-  pub book-put-spares : (c : A-book-put) → Spares (c .answer .number) (c .answer .bytes) (put-book c) (put-book′ c)
+  pub book-change-spares : (c : A-change) → Spares (change-answer c .number) (change-answer c .bytes) (changed-book c) (changed-book′ c)
 
 -- ---- 2. "The fit is exactly the elimination that the paper prescribes, each operation rounded once; logs give the stated mean; writing a sound card and reading it returns it, and
 -- accepted bytes are those that the writer makes."
@@ -194,11 +195,12 @@ pub record Kept (K : Kind) (card : Card) : Type 0 where
   pub is-read : (w : A-writing) (r : A-read) → written-kind w ≡ K → written-card w ≡ card → card-size (knots card) ≤ length (buffer w) → read-bytes r ≡ written-bytes w → Room-for (knots card) (places r)
       → Accepts-as K card (r .answer) × (front (r .answer .knots) (places′ r) (r .answer .left) (r .answer .right) ≡ card)
 
--- a sound book at the front of a list, of these rooms, with n bytes in use
+-- a sound book at the front of a list, of these rooms, with n bytes in use: "the sum over rooms present of 6
+-- plus the card's length, plus 4"
 pub record Holds-a-book (n : ℕ) (s : List ℕ) : Type 0 where
   pub rooms : List Entry
   pub is : book s ≡ Answer.given rooms
-  pub in-use : n ≡ size rooms
+  pub in-use : n ≡ in-use-by rooms
   pub bytes : take n s ≡ book-bytes rooms
 
 -- "the part of the book that holds its card (an empty part on refusal)"
@@ -250,18 +252,36 @@ pub record Demand-2 : Type 0 where
       → read-bytes r ≡ checked-bytes c → r .answer .number ≡ 0
       → written-card w ≡ front (r .answer .knots) (places′ r) (r .answer .left) (r .answer .right) → length (checked-bytes c) ≤ length (buffer w)
       → (write-answer w .number ≡ 0) × (written-bytes w ≡ checked-bytes c)
-  -- and so in a book: what is left by a card that was put in is a sound book,
-  pub put-leaves-a-book : (p : A-book-put) → p .answer .number ≡ 0 → Holds-a-book (p .answer .bytes) (put-book′ p)
+  -- and so in a book: what is left by a card that was put in, or a room that was taken out, is a sound book,
+  pub change-leaves-a-book : (c : A-change) → change-answer c .number ≡ 0 → Holds-a-book (change-answer c .bytes) (changed-book′ c)
   -- in which the card is found,
   pub put-is-found : (p : A-book-put) (f : A-book-find) → p .answer .number ≡ 0 → the-book f ≡ put-book′ p → the-room f ≡ put-room p →
       (f .answer .number ≡ 0) × (the-part f ≡ put-card p)
+  -- and the room that was taken out is not;
+  pub removed-is-gone : (c : A-book-remove) (f : A-book-find) → c .answer .number ≡ 0 → the-book f ≡ out-book′ c → the-room f ≡ out-room c →
+      (f .answer .number ≡ 20) × (f .answer .place ≡ 0)
   -- what is found is that room's card in the book;
   pub hands-back : (f : A-book-find) → Hands-back f
-  -- "Each other room's card stays byte for byte", accepted or damaged, refused puts too;
-  pub cards-stay : (p : A-book-put) (q : ℕ) → q ≢ put-room p → card-in q (put-book′ p) ≡ card-in q (put-book p)
+  -- "Each other room's card stays byte for byte", accepted or damaged, refused calls too;
+  pub cards-stay : (c : A-change) (q : ℕ) → q ≢ changed-room c → card-in q (changed-book′ c) ≡ card-in q (changed-book c)
   -- and looking it up gives what it gave before
-  pub others-as-before : (p : A-book-put) (f g : A-book-find) → the-book f ≡ put-book p → the-book g ≡ put-book′ p → the-room g ≡ the-room f → the-room f ≢ put-room p →
+  pub others-as-before : (c : A-change) (f g : A-book-find) → the-book f ≡ changed-book c → the-book g ≡ changed-book′ c → the-room g ≡ the-room f → the-room f ≢ changed-room c →
       (g .answer .number ≡ f .answer .number) × (g .answer .place ≡ f .answer .place) × (the-part g ≡ the-part f)
+  -- whether an accepted card is refused with 21 is told by the bytes in use alone (document 02, order 11),
+  pub put-by-bytes-in-use : (p : A-book-put) (rooms : List Entry) → book (put-book p) ≡ Answer.given rooms → own (put-card p) ≡ accepted →
+      p .answer .number ≡ Answer.number (full (then-in-use (put-room p) (put-card p) rooms) (length (put-book p)))
+  -- and the next card can use what a removal freed
+  pub freed-is-used : (c : A-book-remove) (p : A-book-put) {old : List ℕ} → c .answer .number ≡ 0 → card-in (out-room c) (out-book c) ≡ Answer.given old →
+      put-book p ≡ out-book′ c → own (put-card p) ≡ accepted → length (put-card p) ≤ length old → p .answer .number ≡ 0
+  -- a room put in where it was absent, and taken out again: accepted, and the same book byte for byte to its closing record
+  pub put-and-out : (p : A-book-put) (c : A-book-remove) → p .answer .number ≡ 0 → card-in (put-room p) (put-book p) ≡ Answer.refused 20 0 →
+      out-book c ≡ put-book′ p → out-room c ≡ put-room p →
+      (c .answer .number ≡ 0) × (book (out-book′ c) ≡ book (put-book p)) × (c .answer .bytes ≡ in-use (book (put-book p)) .bytes)
+      × (take (c .answer .bytes) (out-book′ c) ≡ take (c .answer .bytes) (put-book p))
+  -- "From a book with no room, after any sequence of puts and removals, refused ones included, looking up gives each room's last accepted card
+  -- not since removed, else 20"
+  pub history : {from to : List ℕ} → book from ≡ Answer.given [] → (calls : Changes from to) (f : A-book-find) → the-book f ≡ to → let v = last-card (the-room f) calls in
+      (f .answer .number ≡ Answer.number v) × (f .answer .place ≡ Answer.place v) × (the-part f ≡ part v)
 
 -- ---- 3. "Off any accepted card, at any whole minute of it, the value is within half a hundredth and slope and curvature within half a card unit of the exact curve; at knots they are the
 -- card's own; third and fourth derivatives jump by no more than is allowed, whoever wrote the card; and no card within half a unit of an exact solution is refused for a jump."
@@ -401,6 +421,8 @@ pub record Demand-3 : Type 0 where
   pub explain-never-10 : (c : A-explain) → Half-a-unit-held (explained-bytes c) → c .answer .number ≢ 10
   pub book-find-never-10 : (c : A-book-find) → ((card : List ℕ) → card-in (the-room c) (the-book c) ≡ Answer.given card → Half-a-unit-held card) → c .answer .number ≢ 10
   pub book-put-never-10 : (c : A-book-put) → Half-a-unit-held (put-card c) → c .answer .number ≢ 10
+  -- a removal tests none
+  pub book-remove-never-10 : (c : A-book-remove) → c .answer .number ≢ 10
   -- nor the numbers that a fit works out
   pub fit-never-10 : (c : A-fit) → Half-a-unit quintic (worked-out (without-ends c)) → c .answer .number ≢ 10
   pub fit-between-never-10 : (c : A-fit-between) → Half-a-unit quintic (worked-out (between-ends c)) → c .answer .number ≢ 10

@@ -213,6 +213,7 @@ use Rattle.book.proofs.find.Reads as book-find
 use Rattle.book.proofs.lookup.Reads as book-lookup
 use Rattle.book_put.specs.Put.{Puts}
 use Rattle.book_put.proofs.put.Reads as book-put
+use Rattle.book_remove.proofs.remove.Reads as book-remove
 use Rattle.kaihveto.proofs.kaihveto_version.Reads as c-version
 use Rattle.kaihveto.proofs.kaihveto_mean.Reads as c-mean
 use Rattle.kaihveto.proofs.kaihveto_fit.Reads as c-fit
@@ -230,6 +231,7 @@ use Rattle.kaihveto.proofs.kaihveto_preheat.Reads as c-preheat
 use Rattle.kaihveto.proofs.kaihveto_refit.Reads as c-refit
 use Rattle.kaihveto.proofs.kaihveto_book_find.Reads as c-book-find
 use Rattle.kaihveto.proofs.kaihveto_book_put.Reads as c-book-put
+use Rattle.kaihveto.proofs.kaihveto_book_remove.Reads as c-book-remove
 use Rattle.kaihveto.proofs.MendReads as c-mend
 use Rattle.outcome.specs.Once.{Leaves, Once, Lent}
 
@@ -496,6 +498,9 @@ book = ((λ κs a x y s t p q. one-step (a .1 .0) x y (one-outcome p q)), (λ κ
 pub put-in-a-book : Once book-put.Post × Lent book-put.Post (λ s. now (s .0))
 put-in-a-book = putting-in _ _ _
 
+pub taken-out-of-a-book : Once book-remove.Post × Lent book-remove.Post (λ s. now (s .0))
+taken-out-of-a-book = putting-in _ _ _
+
 -- ---- the fit
 
 pub rows : Once row-gap.Post × Once empty-gap.Post × Once equations-of.Post
@@ -679,6 +684,9 @@ boundary-found = equation _ _
 
 pub boundary-put-in : Once c-book-put.Post × Lent c-book-put.Post (λ s. now (s .0))
 boundary-put-in = let w = putting-in _ _ _ in (with-more _ _ (w .0), with-more _ _ (w .1))
+
+pub boundary-taken-out : Once c-book-remove.Post × Lent c-book-remove.Post (λ s. now (s .0))
+boundary-taken-out = let w = putting-in _ _ _ in (with-more _ _ (w .0), with-more _ _ (w .1))
 
 -- the list of changes is the last
 pub boundary-mended :
