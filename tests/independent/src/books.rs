@@ -7,45 +7,45 @@ use crate::random::Random;
 use crate::reference::{self, book_bytes, Kind, CARD_NUMBER_LIMIT, LONGEST_BOOK, MOST_KNOTS, ORDINATE_LIMIT};
 use std::collections::BTreeMap;
 
-const CLOSING: [u8; 4] = [0, 0, 3, 0];
+pub const CLOSING: [u8; 4] = [0, 0, 3, 0];
 
 /// What a room takes of a book beside its card's bytes: length, kind and number.
-const ROOM_HEAD: usize = 6;
+pub const ROOM_HEAD: usize = 6;
 
-fn record(kind: u16, body: &[u8]) -> Vec<u8> {
+pub fn record(kind: u16, body: &[u8]) -> Vec<u8> {
     [&(body.len() as u16).to_le_bytes()[..], &kind.to_le_bytes(), body].concat()
 }
 
-fn room_record(room: u16, card: &[u8]) -> Vec<u8> {
+pub fn room_record(room: u16, card: &[u8]) -> Vec<u8> {
     record(5, &[&room.to_le_bytes(), card].concat())
 }
 
-fn noise(random: &mut Random, length: usize) -> Vec<u8> {
+pub fn noise(random: &mut Random, length: usize) -> Vec<u8> {
     (0..length).map(|_| random.next() as u8).collect()
 }
 
 /// A buffer of this length that starts with a book, or with so much of it as there is room for.
-fn in_a_buffer(random: &mut Random, book: &[u8], length: usize) -> Vec<u8> {
+pub fn in_a_buffer(random: &mut Random, book: &[u8], length: usize) -> Vec<u8> {
     let mut buffer = book[..book.len().min(length)].to_vec();
     buffer.extend(noise(random, length - buffer.len()));
     buffer
 }
 
 /// A sound card of so many knots.
-fn sound_card(random: &mut Random, n: usize) -> Vec<u8> {
+pub fn sound_card(random: &mut Random, n: usize) -> Vec<u8> {
     let (left, right) = (random.below(3) as u16, random.below(3) as u16);
     curves::fitted(random, n, left, right).bytes()
 }
 
 /// Sound cards: of 3 knots, of 64, and of so many between.
-fn sound_cards(random: &mut Random, least: i64, most: i64) -> Vec<Vec<u8>> {
+pub fn sound_cards(random: &mut Random, least: i64, most: i64) -> Vec<Vec<u8>> {
     let mut knots = vec![3, MOST_KNOTS];
     knots.extend((0..10).map(|_| random.within(least, most) as usize));
     knots.into_iter().map(|n| sound_card(random, n)).collect()
 }
 
 /// Cards that are refused, at least one with each number of a card's order.
-fn refused_cards(random: &mut Random) -> Vec<Vec<u8>> {
+pub fn refused_cards(random: &mut Random) -> Vec<Vec<u8>> {
     let spoils: [fn(&mut Numbers); 8] = [
         |card| card.left = 3,
         |card| card.right = 65_535,
@@ -82,7 +82,7 @@ fn refused_cards(random: &mut Random) -> Vec<Vec<u8>> {
 }
 
 /// Rooms to ask for: the ends of all numbers, and such as differ in one of their two bytes or in the order of these.
-const ROOMS: [u16; 9] = [0, 1, 255, 256, 257, 513, 258, 65_534, 65_535];
+pub const ROOMS: [u16; 9] = [0, 1, 255, 256, 257, 513, 258, 65_534, 65_535];
 
 /// A small book, whose rooms have a few bytes, a sound card and no byte: every cut of it, all sorts of bytes behind it, and every
 /// change of one byte.
@@ -116,7 +116,7 @@ fn small_books(tally: &mut Tally, random: &mut Random) {
 
 /// Records in a row, mostly a book's: in some turns a body under 2 bytes, another kind, an end with a body or none, a room that
 /// does not rise, or several of these.
-fn pile(random: &mut Random, card: &[u8]) -> Vec<u8> {
+pub fn pile(random: &mut Random, card: &[u8]) -> Vec<u8> {
     let faults = random.below(3);
     let faulty = |random: &mut Random| random.once_in([1_000, 10, 4][faults]);
     let mut bytes = Vec::new();
@@ -150,7 +150,7 @@ fn pile(random: &mut Random, card: &[u8]) -> Vec<u8> {
 }
 
 /// The rooms whose records a reader meets in these bytes, sound book or not; and one that is perhaps not there.
-fn rooms_in(random: &mut Random, bytes: &[u8]) -> Vec<u16> {
+pub fn rooms_in(random: &mut Random, bytes: &[u8]) -> Vec<u16> {
     let mut rooms = vec![random.pick(&ROOMS)];
     let mut rest = bytes;
     while let [low, high, 5, 0, room @ ..] = rest {

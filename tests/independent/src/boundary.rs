@@ -146,7 +146,7 @@ pub struct Spot {
     pub length: u32,
 }
 
-/// What kaihveto_book_put answers.
+/// What kaihveto_book_put and kaihveto_book_remove answer.
 #[repr(C)]
 #[derive(Clone, Copy, Debug, Default, PartialEq, Eq)]
 pub struct Used {
@@ -281,6 +281,7 @@ mod linked {
         ) -> Mended;
         pub fn kaihveto_book_find(book: *const u8, book_length: usize, room: u16) -> Spot;
         pub fn kaihveto_book_put(book: *mut u8, book_length: usize, room: u16, card: *const u8, card_length: usize) -> Used;
+        pub fn kaihveto_book_remove(book: *mut u8, book_length: usize, room: u16) -> Used;
     }
 }
 
@@ -467,4 +468,8 @@ pub fn book_find(book: &[u8], room: u16) -> Spot {
 
 pub fn book_put(book: &mut [u8], room: u16, card: &[u8]) -> Used {
     call!(kaihveto_book_put(book.as_mut_ptr(), book.len(), room, card.as_ptr(), card.len()))
+}
+
+pub fn book_remove(book: &mut [u8], room: u16) -> Used {
+    call!(kaihveto_book_remove(book.as_mut_ptr(), book.len(), room))
 }

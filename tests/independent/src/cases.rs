@@ -1115,6 +1115,111 @@ fn fourteen_full_cards_go_into_one_book() {
     assert_eq!(put(&mut book, 15, &card), (21, 0, 0));
 }
 
+/// What taking out answers, number, place and bytes, a refused one having left the buffer.
+fn taken(book: &mut [u8], room: u16) -> (u32, u32, u32) {
+    let before = book.to_vec();
+    let answer = book_remove(book, room);
+    if answer.is_err() {
+        assert_eq!(book, before);
+    }
+    let (number, place) = number_and_place(answer);
+    (number, place, answer.unwrap_or(0))
+}
+
+#[test]
+fn a_room_taken_out_leaves_the_others_and_what_lies_behind_the_new_end() {
+    // Rooms 7, 9 and 0x0109 with one byte, none and two, and a byte behind the book.
+    let book = [3, 0, 5, 0, 7, 0, 0xAA, 2, 0, 5, 0, 9, 0, 4, 0, 5, 0, 9, 1, 0xBB, 0xCC, 0, 0, 3, 0, 0xEE];
+    let mut first = book;
+    assert_eq!(taken(&mut first, 7), (0, 0, 18));
+    assert_eq!(first[..18], [2, 0, 5, 0, 9, 0, 4, 0, 5, 0, 9, 1, 0xBB, 0xCC, 0, 0, 3, 0]);
+    assert_eq!(first[18..], [1, 0xBB, 0xCC, 0, 0, 3, 0, 0xEE]);
+    let mut middle = book;
+    assert_eq!(taken(&mut middle, 9), (0, 0, 19));
+    assert_eq!(middle[..19], [3, 0, 5, 0, 7, 0, 0xAA, 4, 0, 5, 0, 9, 1, 0xBB, 0xCC, 0, 0, 3, 0]);
+    assert_eq!(middle[19..], [0xBB, 0xCC, 0, 0, 3, 0, 0xEE]);
+    let mut last = book;
+    assert_eq!(taken(&mut last, 0x0109), (0, 0, 17));
+    assert_eq!(last[..17], [3, 0, 5, 0, 7, 0, 0xAA, 2, 0, 5, 0, 9, 0, 0, 0, 3, 0]);
+    assert_eq!(last[17..], [9, 1, 0xBB, 0xCC, 0, 0, 3, 0, 0xEE]);
+    // Every room, one after the other: a book with no room is left, and the rest is what it was at some time.
+    assert_eq!(taken(&mut last, 9), (0, 0, 11));
+    assert_eq!(taken(&mut last, 9), (20, 0, 0));
+    assert_eq!(taken(&mut last, 7), (0, 0, 4));
+    assert_eq!(last[..4], [0, 0, 3, 0]);
+    assert_eq!(last[17..], [9, 1, 0xBB, 0xCC, 0, 0, 3, 0, 0xEE]);
+    assert_eq!(taken(&mut last, 7), (20, 0, 0));
+}
+
+#[test]
+fn a_removal_is_14_then_22_then_20() {
+    for behind in [&[][..], &[7], &[2, 0, 5, 0, 7, 0, 0, 0, 3, 0]] {
+        assert_eq!(taken(&mut [&[0, 0, 3, 0], behind].concat(), 7), (20, 0, 0));
+    }
+    let short: [&[u8]; 4] = [&[], &[0], &[0, 0, 3], &[64, 0, 5, 0, 7]];
+    assert_eq!(short.map(|bytes| taken(&mut bytes.to_vec(), 7)), [(14, 0, 0); 4]);
+    let of = |rooms: &[u16], cut: usize| {
+        let rooms: Vec<(u16, &[u8])> = rooms.iter().map(|&room| (room, &[][..])).collect();
+        let mut book = book_of(&rooms);
+        book.truncate(book.len() - cut);
+        taken(&mut book, 7)
+    };
+    // Where the room is there and where it is not.
+    assert_eq!([of(&[7, 7], 0), of(&[7, 6], 0), of(&[5, 5], 0), of(&[1, 7, 9, 9], 0)], [(22, 6, 0), (22, 6, 0), (22, 6, 0), (22, 18, 0)]);
+    assert_eq!([of(&[7, 7], 1), of(&[7, 9], 4), of(&[5, 5], 2)], [(14, 12, 0); 3]);
+    assert_eq!([of(&[6, 8], 0), of(&[0x0700], 0), of(&[6, 7, 8], 0)], [(20, 0, 0), (20, 0, 0), (0, 0, 16)]);
+    // A book over the limit stays, though without that room it would be under it.
+    for (filling, wanted) in [(16_368, (0, 0, 16_378)), (16_369, (14, 16_381, 0))] {
+        let mut book = book_of(&[(6, &vec![0; filling]), (7, &[])]);
+        book.resize(20_000, 0);
+        assert_eq!(taken(&mut book, 7), wanted);
+    }
+}
+
+#[test]
+fn no_card_is_tested_where_a_room_is_taken_out() {
+    let [card, longer] = two_cards();
+    let mut steep = longer.clone();
+    steep[10 + 2 * 16 + 8 + 3] = 1;
+    let book = book_of(&[(3, &card), (5, &steep), (6, &card[..61])]);
+    assert_eq!((found(&book, 5).0, found(&book, 6).0), (9, 14));
+    for (room, left) in [(3, [(5, &steep[..]), (6, &card[..61])]), (5, [(3, &card), (6, &card[..61])]), (6, [(3, &card), (5, &steep)])] {
+        let (mut taken_from, made) = (book.clone(), book_of(&left));
+        assert_eq!(taken(&mut taken_from, room), (0, 0, made.len() as u32));
+        assert_eq!(taken_from, [&made, &book[made.len()..]].concat());
+    }
+}
+
+#[test]
+fn the_next_card_uses_the_bytes_of_a_room_taken_out() {
+    let [card, longer] = two_cards();
+    for (filling, length) in [(50, 4 + 56 + 68 + 84), (16_384 - 4 - 6 - 84 - 68, 20_000)] {
+        let mut book = book_of(&[(1, &card), (2, &vec![0; filling]), (9, &longer)]);
+        book.resize(length, 0xEE);
+        assert_eq!(put(&mut book, 3, &longer), (21, 0, 0));
+        assert_eq!(taken(&mut book, 9), (0, 0, 4 + 68 + 6 + filling as u32));
+        assert_eq!(put(&mut book, 3, &longer), (0, 0, 4 + 68 + 6 + filling as u32 + 84));
+        assert_eq!((found(&book, 1), found(&book, 9)), ((0, 0, 6, 62), (20, 0, 0, 0)));
+        assert_eq!(found(&book, 3), (0, 0, 68 + 6 + filling as u32 + 6, 78));
+    }
+}
+
+#[test]
+fn a_room_put_in_and_taken_out_again_leaves_the_same_book() {
+    let [card, longer] = two_cards();
+    for rooms in [&[][..], &[(2, &card[..])], &[(2, &card), (5, &[9, 9, 9]), (9, &longer)]] {
+        let book = book_of(rooms);
+        for room in [0, 3, 7, 65_535] {
+            let mut buffer = [book.clone(), vec![0xEE; 100]].concat();
+            let before = buffer.clone();
+            assert_eq!(put(&mut buffer, room, &longer), (0, 0, book.len() as u32 + 84));
+            assert_eq!(taken(&mut buffer, room), (0, 0, book.len() as u32));
+            assert_eq!(buffer[..book.len()], book);
+            assert_eq!(buffer[book.len() + 84..], before[book.len() + 84..]);
+        }
+    }
+}
+
 /// A card of given slopes on these minutes, without ordinates and slopes: which of its curvatures it is
 /// refused for.
 fn flat_with(minutes: &[u16; 3], curvatures: [i32; 3]) -> (u32, u32) {

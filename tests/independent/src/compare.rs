@@ -477,22 +477,81 @@ pub fn book_find(tally: &mut Tally, book: &[u8], room: u16) {
     tally.count("book_find", wanted.number, boundary::book_find(book, room), wanted, true, || format!("of {room} in {}", shown(book)));
 }
 
-/// A card put in; the buffer is left as the reference leaves it, though the library was not asked. Whether it
-/// was accepted.
-pub fn book_put(tally: &mut Tally, book: &mut [u8], room: u16, card: &[u8]) -> bool {
+/// A book changed by the reference and by the library; the buffer is left as the reference leaves it, though
+/// the library was not asked. Whether the change was accepted.
+fn book_changed(
+    tally: &mut Tally,
+    function: &'static str,
+    book: &mut [u8],
+    by_reference: impl FnOnce(&mut [u8]) -> Result<u32, Refusal>,
+    by_library: impl FnOnce(&mut [u8]) -> boundary::Used,
+    what: impl FnOnce() -> String,
+) -> bool {
     let mut wanted = within_a_pattern(u8_pattern(book.len()), book);
-    let wanted_answer = match reference::book_put(lent(&mut wanted), room, card) {
+    let wanted_answer = match by_reference(lent(&mut wanted)) {
         Ok(bytes) => boundary::Used { bytes, ..Default::default() },
         Err(Refusal { number, place }) => boundary::Used { number, place, ..Default::default() },
     };
     if tally.takes_the_next() {
         let mut ours = within_a_pattern(u8_pattern(book.len()), book);
-        let answer = boundary::book_put(lent(&mut ours), room, card);
-        let input = || format!("of {} for {room} into {}", shown(card), shown(book));
-        tally.count("book_put", wanted_answer.number, answer, wanted_answer, ours == wanted, input);
+        let answer = by_library(lent(&mut ours));
+        let input = || format!("of {} {}", what(), shown(book));
+        tally.count(function, wanted_answer.number, answer, wanted_answer, ours == wanted, input);
     }
     book.copy_from_slice(lent(&mut wanted));
     wanted_answer.number == 0
+}
+
+/// A card put in.
+pub fn book_put(tally: &mut Tally, book: &mut [u8], room: u16, card: &[u8]) -> bool {
+    let what = || format!("{} for {room} into", shown(card));
+    let by_reference = |book: &mut [u8]| reference::book_put(book, room, card);
+    book_changed(tally, "book_put", book, by_reference, |book| boundary::book_put(book, room, card), what)
+}
+
+/// A room taken out.
+pub fn book_remove(tally: &mut Tally, book: &mut [u8], room: u16) -> bool {
+    let what = || format!("{room} out of");
+    let by_reference = |book: &mut [u8]| reference::book_remove(book, room);
+    book_changed(tally, "book_remove", book, by_reference, |book| boundary::book_remove(book, room), what)
+}
+
+/// A room looked up by the library, beside the bytes that were last put in for it and not taken out since, if
+/// there are any: 20 where there are none, else their own refusal, or the part that has them.
+pub fn card_in_book(tally: &mut Tally, book: &[u8], room: u16, card: Option<&[u8]>) {
+    if !tally.takes_the_next() {
+        return;
+    }
+    let wanted = match card.map(|card| (card, reference::check(card))) {
+        None => (20, 0, &[][..]),
+        Some((_, Err(Refusal { number, place }))) => (number, place, &[][..]),
+        Some((card, Ok(_))) => (0, 0, card),
+    };
+    let spot = boundary::book_find(book, room);
+    let (start, end) = (spot.start as usize, spot.start as usize + spot.length as usize);
+    let part = book.get(start..end).unwrap_or(b"beyond the buffer");
+    let empty = spot.number == 0 || spot == boundary::Spot { start: 0, length: 0, ..spot };
+    let input = || format!("of {room}, {spot:?}, in {}", shown(book));
+    tally.count("book_find", wanted.0, (spot.number, spot.place, part), wanted, empty, input);
+}
+
+/// A card put in for a room that the book does not have, and the room taken out again, by the library alone:
+/// the book is the one that it was, and what lies behind the one with the card as well.
+pub fn book_put_and_remove(tally: &mut Tally, book: &[u8], room: u16, card: &[u8]) {
+    if !tally.takes_the_next() {
+        return;
+    }
+    let rooms = reference::rooms(book).expect("a sound book");
+    let bytes = reference::bytes_in_use(rooms.iter().map(|one| &one.card[..]));
+    let larger = bytes + 6 + card.len();
+    let mut ours = within_a_pattern(u8_pattern(book.len()), book);
+    let put = boundary::book_put(lent(&mut ours), room, card);
+    let out = boundary::book_remove(lent(&mut ours), room);
+    let wanted = [larger, bytes].map(|bytes| boundary::Used { bytes: bytes as u32, ..Default::default() });
+    let mut before = within_a_pattern(u8_pattern(book.len()), book);
+    lent(&mut before)[bytes..larger].copy_from_slice(&lent(&mut ours)[bytes..larger]);
+    let input = || format!("of {} put in for {room} into {}", shown(card), shown(book));
+    tally.count("book_remove", 0, [put, out], wanted, ours == before, input);
 }
 
 /// The part of the book that the library hands back for a room, beside the card that was put in for it; and the library's reading

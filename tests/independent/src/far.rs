@@ -321,3 +321,10 @@ pub unsafe fn kaihveto_book_put(book: *mut u8, book_length: usize, room: u16, ca
     far.list(book, book_length);
     answer
 }
+
+pub unsafe fn kaihveto_book_remove(book: *mut u8, book_length: usize, room: u16) -> Used {
+    let mut far = Call::new(b'x').list(book, book_length).number(room.into()).made();
+    let answer = far.answer();
+    far.list(book, book_length);
+    answer
+}

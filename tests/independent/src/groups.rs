@@ -8,6 +8,7 @@ use crate::random::Random;
 use crate::reference::{
     self, card_size, End, Kind, Swing, CARD_NUMBER_LIMIT, FREE, HOLE, LONGEST_LOG, MOST_KNOTS, ORDINATE_LIMIT, WIDEST_GAP,
 };
+use crate::removals;
 use crate::slopes;
 use std::collections::BTreeMap;
 use std::time::Instant;
@@ -1004,7 +1005,7 @@ fn mends(tally: &mut Tally, random: &mut Random) {
 
 /// The numbers that the comparisons of each function have to meet, so that inputs which no longer reach one of them are seen. 8 is
 /// missing, which no input is known to meet, and the fits' 10, which none of these does.
-const TO_BE_MET: [(&str, &[u32]); 17] = [
+const TO_BE_MET: [(&str, &[u32]); 18] = [
     ("mean", &[0, 16, 12, 13, 23, 19]),
     ("fit", &[0, 3, 1, 2, 4, 5, 6, 9]),
     ("fit_ends", &[0, 3, 1, 2, 15, 4, 5, 6, 7, 9]),
@@ -1022,6 +1023,7 @@ const TO_BE_MET: [(&str, &[u32]); 17] = [
     ("mend", &[0, 3, 1, 2, 4, 5, 6, 17, 18, 9]),
     ("book_find", &[0, 14, 22, 20, 1, 2, 15, 4, 5, 6, 9, 10]),
     ("book_put", &[0, 14, 22, 1, 2, 15, 4, 5, 6, 9, 10, 21]),
+    ("book_remove", &[0, 14, 22, 20]),
 ];
 
 /// Says which of them were not met, and whether all were.
@@ -1042,7 +1044,7 @@ type Group = fn(&mut Tally, &mut Random);
 /// whether nothing differed and, of all questions, nothing was left unmet: a part may miss a number that few
 /// of them meet.
 pub fn run(part: Option<u64>) -> bool {
-    let groups: [(&str, Group); 31] = [
+    let groups: [(&str, Group); 34] = [
         ("logs", logs),
         ("fits", fits),
         ("given numbers", given),
@@ -1074,6 +1076,9 @@ pub fn run(part: Option<u64>) -> bool {
         ("tables of the pre-heater", preheater::tables),
         ("the pre-heater at a half", preheater::at_a_half),
         ("what the pre-heater refuses", preheater::refusals),
+        ("rooms taken out of any bytes", removals::bytes_of_books),
+        ("rooms taken out of books and put in again", removals::books),
+        ("rooms put in and taken out in turn", removals::turns),
     ];
     let mut tally = Tally::new(part);
     for (seed, (name, group)) in groups.iter().enumerate() {

@@ -18,6 +18,7 @@ pub mod lines;
 pub mod preheater;
 pub mod random;
 pub mod reference;
+mod removals;
 #[cfg(test)]
 mod sheet;
 pub mod slopes;
