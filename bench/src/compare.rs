@@ -106,6 +106,10 @@ fn same_book(library: &Library, book: &[u8], room: u16, card: &[u8]) {
         let mut book = book.to_vec();
         (by.book_put(&mut book, room, card), book)
     });
+    same(library, &("removal", room, book), |by| {
+        let mut book = book.to_vec();
+        (by.book_remove(&mut book, room), book)
+    });
 }
 
 /// Full books, cut, with a byte changed or two, in short buffers and long; and small ones changed at each

@@ -11,5 +11,5 @@ const function FUNCTIONS[] = {
     (function)kaihveto_write,   (function)kaihveto_write_slopes, (function)kaihveto_check,     (function)kaihveto_read,
     (function)kaihveto_reading, (function)kaihveto_table,        (function)kaihveto_explain,   (function)kaihveto_swing,
     (function)kaihveto_preheat, (function)kaihveto_refit,        (function)kaihveto_mend,      (function)kaihveto_book_find,
-    (function)kaihveto_book_put,
+    (function)kaihveto_book_put, (function)kaihveto_book_remove,
 };

@@ -1,7 +1,8 @@
-//! The functions of include/kaihveto.h: what they answer, which the outside check states too (an answer of three
-//! numbers stands for that of the table and of the mending, and that of the writer for that of the put), as whom one may
-//! ask (`Functions`), and the library as one C compiler has made it, each function wrapped so that safe Rust can call it:
-//! a slice passes as its pointer and then its length, an answer comes back by value.
+//! The functions of include/kaihveto.h: what they answer, which the outside check states too (an answer of
+//! three numbers stands for that of the table and of the mending, and that of the writer for those of the put
+//! and the removal), as whom one may ask (`Functions`), and the library as one C compiler has made it, each
+//! function wrapped so that safe Rust can call it: a slice passes as its pointer and then its length, an
+//! answer comes back by value.
 
 pub use independent::boundary::{
     Change, Checked, End, Explained, Fitted, Mean, Preheated, Reading, Refitted, Spot, Swing, Tabled as Counted, Written,
@@ -29,6 +30,7 @@ pub trait Functions {
     fn mend(&self, minutes: &[u16], ordinates: &mut [i16], slopes: &mut [i32], curvatures: &mut [i32], changes: &mut [Change]) -> Counted;
     fn book_find(&self, book: &[u8], room: u16) -> Spot;
     fn book_put(&self, book: &mut [u8], room: u16, card: &[u8]) -> Written;
+    fn book_remove(&self, book: &mut [u8], room: u16) -> Written;
 }
 
 /// The functions' addresses, in the order of src/functions.c.
@@ -80,6 +82,7 @@ pub struct Library {
     mend: unsafe extern "C" fn(*const u16, usize, *mut i16, usize, *mut i32, usize, *mut i32, usize, *mut Change, usize) -> Counted,
     book_find: unsafe extern "C" fn(*const u8, usize, u16) -> Spot,
     book_put: unsafe extern "C" fn(*mut u8, usize, u16, *const u8, usize) -> Written,
+    book_remove: unsafe extern "C" fn(*mut u8, usize, u16) -> Written,
 }
 
 extern "C" {
@@ -255,5 +258,9 @@ impl Functions for Library {
 
     fn book_put(&self, book: &mut [u8], room: u16, card: &[u8]) -> Written {
         unsafe { (self.book_put)(book.as_mut_ptr(), book.len(), room, card.as_ptr(), card.len()) }
+    }
+
+    fn book_remove(&self, book: &mut [u8], room: u16) -> Written {
+        unsafe { (self.book_remove)(book.as_mut_ptr(), book.len(), room) }
     }
 }
