@@ -45,7 +45,7 @@ refusals =
     ∷ row "list of changes has fewer places than there are holes" "" "the program that calls is wrong: it has to lend a list with a place for each hole (64 are always enough)"
     ∷ row "log's middle is behind minute 65535" "" "a knot's minute is at most 65535, and a log's knot stands in its middle: look at the log's first minute"
     ∷ row "room is not in the book" "" "look at the room's number: kaihveto book list says which rooms are there, kaihveto book put puts one in"
-    ∷ row "book would be over 16384 bytes, or over the lent buffer" "" "put the card into a second book, or make it with fewer knots; a program that calls has to lend as many bytes as the book then has"
+    ∷ row "book would be over 16384 bytes, or over the lent buffer" "" "take out a room that is not used any more (kaihveto book remove), put the card into a second book, or make it with fewer knots; a program that calls has to lend as many bytes as the book then has"
     ∷ row "room number is not above the one before" "byte" "the record there is out of order, or its room is in the book already: make the book anew from the rooms' cards"
     ∷ row "log has good bytes, but fewer than half" "" "the sensor was out for most of that time: cut the log to minutes of which half are good, leave it out, or write a hole at the minute of its middle and mend the sheet"
     ∷ row "more than 20 values" "" "a pre-heater's table has 3 to 20 values: leave some out, or make two tables"

@@ -119,7 +119,7 @@ pub fn put_sentence(to: &mut [u8], at: usize, table: Table, n: u32) -> usize
             the program that calls is wrong: it has to lend a list with a place for each hole (64 are always enough)\n\
             a knot's minute is at most 65535, and a log's knot stands in its middle: look at the log's first minute\n\
             look at the room's number: kaihveto book list says which rooms are there, kaihveto book put puts one in\n\
-            put the card into a second book, or make it with fewer knots; a program that calls has to lend as many bytes as the book then has\n\
+            take out a room that is not used any more (kaihveto book remove), put the card into a second book, or make it with fewer knots; a program that calls has to lend as many bytes as the book then has\n\
             the record there is out of order, or its room is in the book already: make the book anew from the rooms' cards\n\
             the sensor was out for most of that time: cut the log to minutes of which half are good, leave it out, or write a hole at the minute of its middle and mend the sheet\n\
             a pre-heater's table has 3 to 20 values: leave some out, or make two tables\n\
