@@ -1,5 +1,6 @@
-// A book of the rooms' cards: made, listed, and a room's card found in it, explained, or put into it. Argument
-// 3 is the book's file, argument 4 the room, argument 5 the card's file, arguments 6 and 7 what is cared for.
+// A book of the rooms' cards: made, listed, a room's card found in it, explained, or put into it, and a room
+// taken out. Argument 3 is the book's file, argument 4 the room, argument 5 the card's file, arguments 6 and
+// 7 what is cared for.
 use crate::arguments::Asked;
 use crate::line::Line;
 use crate::swings::Care;
@@ -82,7 +83,7 @@ fn in_use(line: Line, bytes: u32) -> Line {
     line.count(bytes as u64)
         .words(b" of ")
         .count(Used::MOST as u64)
-        .words(b" bytes in use\n")
+        .words(b" bytes in use")
 }
 
 fn list(file: &[u8], bytes: &[u8]) -> u8 {
@@ -95,7 +96,8 @@ fn list(file: &[u8], bytes: &[u8]) -> u8 {
         .words(b"ok ")
         .count(listed.rooms as u64)
         .words(b", ");
-    crate::tell::graver(listed.status, in_use(line, used.bytes).print(b""))
+    let said = in_use(line, used.bytes).words(b"\n").print(b"");
+    crate::tell::graver(listed.status, said)
 }
 
 // ---- a room's card
@@ -162,12 +164,13 @@ fn find(file: &[u8], bytes: &[u8], room: u16, count: usize) -> u8 {
     save_card(file, room, card)
 }
 
-// ---- a book that is only read
+// ---- a book by itself
 
-// `Find` with how many arguments there are.
+// `Find` and `Remove` with the room, `Find` with how many arguments there are too.
 enum Job {
     List,
     Find(u16, usize),
+    Remove(u16),
 }
 
 fn with(job: Job) -> u8 {
@@ -182,25 +185,36 @@ fn with(job: Job) -> u8 {
     match job {
         Job::List => list(&file[..n], &bytes[..k]),
         Job::Find(room, count) => find(&file[..n], &bytes[..k], room, count),
+        Job::Remove(room) => remove(&file[..n], &mut bytes, k, room),
     }
+}
+
+// ---- a book that is changed
+
+// The file is made anew with the bytes in use.
+fn save(file: &[u8], book: &[u8], bytes: u32) -> u8 {
+    crate::files::save(file, crate::tell::front(book, bytes as usize))
+}
+
+// What was done with a room.
+fn done_with(room: u16, what: &[u8]) -> Line {
+    Line::new().words(b": room ").count(room as u64).words(what)
 }
 
 // ---- a card put in
 
 // `rooms.book: room 3: put in, 18 knots, minute 0 to 1020, 312 of 16384 bytes in use`.
 fn tell_put(file: &[u8], room: u16, replaced: bool, card: Card, bytes: u32) -> u8 {
-    let begun = Line::new().words(b": room ").count(room as u64);
     let done = if replaced {
-        begun.words(b": replaced, ")
+        done_with(room, b": replaced, ")
     } else {
-        begun.words(b": put in, ")
+        done_with(room, b": put in, ")
     };
     let line = crate::checks::reach(done, card).words(b", ");
-    in_use(line, bytes).print(file)
+    in_use(line, bytes).words(b"\n").print(file)
 }
 
-// The file is made anew with the bytes in use; the buffer has room for every book, so that 21 is only ever
-// said of the limit.
+// The buffer has room for every book, so that 21 is only ever said of the limit.
 fn put_sound(
     file: &[u8],
     book: &mut [u8],
@@ -213,7 +227,7 @@ fn put_sound(
     if used.number != 0 {
         return crate::tell::refused(file, used.number, used.place);
     }
-    let saved = crate::files::save(file, crate::tell::front(book, used.bytes as usize));
+    let saved = save(file, book, used.bytes);
     if saved != crate::tell::DONE {
         return saved;
     }
@@ -263,6 +277,38 @@ pub(crate) fn put(name: &[u8], card: &[u8], room: u16, care: Care) -> u8 {
     put_judged(&file[..n], &mut bytes, replaced, room, name, card, care)
 }
 
+// ---- a room taken out
+
+// `rooms.book: room 9: taken out, 312 of 16384 bytes in use, 16072 free`.
+fn tell_taken(file: &[u8], room: u16, bytes: u32) -> u8 {
+    let line = in_use(done_with(room, b": taken out, "), bytes).words(b", ");
+    let n = bytes as usize;
+    let free = if n < Used::MOST { Used::MOST - n } else { 0 };
+    line.count(free as u64).words(b" free\n").print(file)
+}
+
+// No card is tested, so that a damaged one can go too.
+fn remove_sound(file: &[u8], book: &mut [u8], room: u16) -> u8 {
+    let used = book_remove::remove(book, room);
+    if used.number != 0 {
+        return crate::tell::refused_in(file, room, used.number, used.place);
+    }
+    let saved = save(file, book, used.bytes);
+    if saved != crate::tell::DONE {
+        return saved;
+    }
+    tell_taken(file, room, used.bytes)
+}
+
+// The book is judged by its file's own n bytes, as for a card put in; what is refused then is the room.
+fn remove(file: &[u8], book: &mut [u8], n: usize, room: u16) -> u8 {
+    let used = book::check(crate::tell::front(book, n));
+    if used.number != 0 {
+        return crate::tell::refused(file, used.number, used.place);
+    }
+    remove_sound(file, book, room)
+}
+
 // ---- which of them is asked for
 
 fn with_room(word: &[u8], room: u16, count: usize) -> u8 {
@@ -271,6 +317,9 @@ fn with_room(word: &[u8], room: u16, count: usize) -> u8 {
     }
     if crate::arguments::same(word, b"put") {
         return crate::cards::put(room);
+    }
+    if crate::arguments::same(word, b"remove") {
+        return with(Job::Remove(room));
     }
     crate::tell::FAILED
 }

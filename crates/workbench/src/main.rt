@@ -1,11 +1,12 @@
 // What stands behind the command `kaihveto`: workbench fit SHEET CARE [CARD], free SHEET CARE [CARD] (the fit
 // between free ends), mend SHEET CARE [CARD], list CARD, check CARE CARD .., at CARD MINUTE .., explain CARD
 // MINUTE, table CARD [EVERY], points CARD CARE, mean MINUTE LOG, preheat PARTS FILE, why NUMBER, weights,
-// book new BOOK, book list BOOK, book find BOOK ROOM [CARD], book put BOOK ROOM CARD CARE, save FILE. CARE is
-// two words: the hundredths beyond its knots beyond which a curve is warned of, and `strict` where such a
-// curve is refused. A CARD that is read may be BOOK:ROOM. Results go to standard output, complaints to
-// standard error, and one byte to descriptor 3, since a program of Rattle has no exit status (`tell`). What is
-// proved of the lines is said in the crates that are called; here every function is proved safe and ending.
+// book new BOOK, book list BOOK, book find BOOK ROOM [CARD], book put BOOK ROOM CARD CARE, book remove BOOK
+// ROOM, save FILE. CARE is two words: the hundredths beyond its knots beyond which a curve is warned of, and
+// `strict` where such a curve is refused. A CARD that is read may be BOOK:ROOM. Results go to standard
+// output, complaints to standard error, and one byte to descriptor 3, since a program of Rattle has no exit
+// status (`tell`). What is proved of the lines is said in the crates that are called; here every function is
+// proved safe and ending.
 mod arguments;
 mod books;
 mod cards;
