@@ -6,7 +6,7 @@ ghost use Rattle.decode.specs.Decoded.{most, held, none, decoded, Full};
 use knots::Kind;
 
 // Its numbers, decoded once: each list at the front of an array, zeros behind it.
-#[derive(Drop)]
+#[derive(Clone, Copy)]
 pub struct Card {
     pub knots: usize,
     pub left: u16,

@@ -15,7 +15,7 @@ pub struct System {
 }
 
 // H and P: what elimination leaves of a knot.
-#[derive(Drop)]
+#[derive(Clone, Copy)]
 pub struct State {
     pub h: Block,
     pub p: Pair,

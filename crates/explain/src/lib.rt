@@ -26,7 +26,7 @@ use weights::Quantity;
 // jumps, and what is allowed, both over the product of the adjoining gaps' cubes or fourth powers, at an end
 // over the one gap's. What is not told is 0.
 #[repr(C)]
-#[derive(Drop)]
+#[derive(Clone, Copy)]
 pub struct Explained {
     pub number: u32,
     pub place: u32,

@@ -17,7 +17,7 @@ pub struct Shares {
 }
 
 // P, by the powers of the minutes from its knot.
-#[derive(Drop)]
+#[derive(Clone, Copy)]
 pub struct Side {
     pub level: i64,
     pub rise: i64,
@@ -81,7 +81,7 @@ fn rounded(n: i64, d: u64) -> i32
 }
 
 // The gap, P of either knot, and what stands under the value, and what under the slope and the curvature.
-#[derive(Drop)]
+#[derive(Clone, Copy)]
 pub struct GapCurve {
     pub h: i64,
     pub left: Side,

@@ -3,7 +3,7 @@ ghost use Rattle.std.specs.Prelude.{◌≡◌, ◌<◌, ◌^◌, nat_abs};
 ghost use Rattle.gaps.specs.Knots.{mirror};
 
 // What a knot has besides its minute: its ordinate in hundredths, its slope and curvature in card units.
-#[derive(Drop)]
+#[derive(Clone, Copy)]
 pub struct Knot {
     pub ordinate: i64,
     pub slope: i64,

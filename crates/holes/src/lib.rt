@@ -16,7 +16,7 @@ pub const MOST: usize = knots::Kind::MOST;
 pub const MARK: i16 = -32768;
 
 // What is put into the holes of a copy.
-#[derive(Drop)]
+#[derive(Clone, Copy)]
 pub enum Fill {
     Zero,
     Line,

@@ -9,7 +9,7 @@ ghost use Rattle.jumps.specs.Spans.{no_span, spans, no_spans, met_jump, met_leew
 ghost use Rattle.jumps.specs.Limits.{Held, Beside, Allowed, Meeting};
 
 // The derivatives whose jumps are tested at a knot.
-#[derive(Drop)]
+#[derive(Clone, Copy)]
 pub enum Order {
     Third,
     Fourth,
@@ -102,7 +102,7 @@ pub fn allowance(order: Order, square: i64, q: i64, h: i64) -> i64
 
 // What a gap gives to the tests of one derivative at its two knots: the side that the left knot sees, minus
 // the one that the right knot sees, what clears both, and what they allow.
-#[derive(Drop)]
+#[derive(Clone, Copy)]
 pub struct Span {
     pub ahead: i64,
     pub behind: i64,
@@ -125,7 +125,7 @@ impl Span {
 }
 
 // For both derivatives, with the gap's products worked out once.
-#[derive(Drop)]
+#[derive(Clone, Copy)]
 pub struct Spans {
     pub third: Span,
     pub fourth: Span,

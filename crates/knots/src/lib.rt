@@ -11,7 +11,7 @@ ghost use Rattle.knots.specs.Lent.{lent};
 ghost use Rattle.minutes.specs.Gaps.{wider_gap};
 
 // What differs between kinds of card; what they share is below.
-#[derive(Drop)]
+#[derive(Clone, Copy)]
 pub struct Kind {
     // the kind of the record that opens its cards
     pub head: u16,

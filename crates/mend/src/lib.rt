@@ -36,7 +36,7 @@ pub struct Mended {
 }
 
 // The same, and the changes at the front of three arrays with zeros behind them.
-#[derive(Drop)]
+#[derive(Clone, Copy)]
 pub struct Plan {
     pub number: u32,
     pub place: u32,

@@ -7,7 +7,7 @@ ghost use Rattle.numbers.specs.Numbers.{AllFinite, scaled};
 use passes::MOST;
 use rows::Pair;
 
-#[derive(Drop)]
+#[derive(Clone, Copy)]
 pub struct Numbers {
     pub slopes: [i32; MOST],
     pub curvatures: [i32; MOST],

@@ -20,7 +20,7 @@ pub const MOST: usize = 64;
 const STUCK: u32 = 8;
 
 // What is solved for: the slopes and curvatures between two ends, or the curvatures alone, the slopes given.
-#[derive(Drop)]
+#[derive(Clone, Copy)]
 pub enum Job {
     Ends(End, End),
     Slopes,

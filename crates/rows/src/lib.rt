@@ -4,14 +4,14 @@ ghost use Rattle.std.specs.Prelude.{◌≡◌};
 ghost use Rattle.rows.specs.Equations.{one_over, powers, difference, gap, no_gap, row, second, both_given, curvature_given, replaced, equations};
 
 // A slope with a curvature; a right side; a column.
-#[derive(Drop)]
+#[derive(Clone, Copy)]
 pub struct Pair {
     pub s: f64,
     pub c: f64,
 }
 
 // A matrix, row by row.
-#[derive(Drop)]
+#[derive(Clone, Copy)]
 pub struct Block {
     pub e11: f64,
     pub e12: f64,
@@ -20,7 +20,7 @@ pub struct Block {
 }
 
 // The inverse of a gap, and its powers.
-#[derive(Drop)]
+#[derive(Clone, Copy)]
 pub struct Powers {
     pub g: f64,
     pub g2: f64,
@@ -29,14 +29,14 @@ pub struct Powers {
 }
 
 // What a gap brings to the equations of the knots beside it.
-#[derive(Drop)]
+#[derive(Clone, Copy)]
 pub struct Gap {
     pub powers: Powers,
     pub rise: f64,
 }
 
 // A knot's two equations: L·(pair before) + A·(pair) + R·(next pair) = k.
-#[derive(Drop)]
+#[derive(Clone, Copy)]
 pub struct Row {
     pub a: Block,
     pub l: Block,
@@ -45,7 +45,7 @@ pub struct Row {
 }
 
 // The kind of an end: code 0, code 1 with slope and curvature given, code 2 with the curvature given.
-#[derive(Drop)]
+#[derive(Clone, Copy)]
 pub enum End {
     Free,
     Both(f64, f64),

@@ -3,7 +3,7 @@ ghost use Rattle.std.specs.Prelude.{◌≡◌, ◌≤◌, [], length, drop, get_
 ghost use Rattle.split.specs.Parts.{marks, stop, until, past, lines};
 
 // What a reader looks for.
-#[derive(Drop)]
+#[derive(Clone, Copy)]
 pub enum Mark {
     LineEnd,
     Note,

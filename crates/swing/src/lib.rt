@@ -19,7 +19,7 @@ use opened::Opened;
 // first minute at which the curve is so far beyond, and how far it goes below the lower and above the higher
 // of the gap's two knots. Zeros behind a refusal.
 #[repr(C)]
-#[derive(Drop)]
+#[derive(Clone, Copy)]
 pub struct Swung {
     pub number: u32,
     pub place: u32,
@@ -30,7 +30,7 @@ pub struct Swung {
 }
 
 // The same of one gap, with the first minute for either side: the left knot's, where the curve stays within.
-#[derive(Drop)]
+#[derive(Clone, Copy)]
 pub struct GapSwing {
     pub below: u32,
     pub lowest: u16,

@@ -206,7 +206,7 @@ pub fn log_name(text: &[u8], line: u32) -> &[u8]
 // What is wrong and on which line, or 0 and 0; how many knots there are, whether they have slopes, and at the
 // front of five arrays their numbers, the line of each, and whether it is a log's: its minute is then the
 // log's first one, and its ordinate 0. A slope that is not there is 0.
-#[derive(Drop)]
+#[derive(Clone, Copy)]
 pub struct Sheet {
     pub wrong: u32,
     pub line: u32,

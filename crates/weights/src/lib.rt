@@ -4,7 +4,7 @@ ghost use Rattle.gaps.specs.Limits.{InGap};
 ghost use Rattle.weights.specs.Weights.{weigh};
 
 // What is read off the curve at a minute.
-#[derive(Drop)]
+#[derive(Clone, Copy)]
 pub enum Quantity {
     Value,
     Slope,

@@ -10,7 +10,7 @@ use swing::Swung;
 const FULL: i32 = 10_000;
 
 // A value and its minute.
-#[derive(Drop)]
+#[derive(Clone, Copy)]
 struct Extreme {
     value: i32,
     minute: u16,
@@ -32,7 +32,7 @@ impl Extreme {
     }
 }
 
-#[derive(Drop)]
+#[derive(Clone, Copy)]
 struct Span {
     lowest: Extreme,
     highest: Extreme,

@@ -9,7 +9,7 @@ use opened::Opened;
 // ---- a reading
 
 // What a part adds to the value: whole hundredths, and ten thousandths of one, cut and not rounded.
-#[derive(Drop)]
+#[derive(Clone, Copy)]
 struct Cut {
     whole: u64,
     rest: u64,

@@ -1,6 +1,6 @@
 // A line that is put together before it is printed, so that it is written at once. What does not fit is left
 // out; no line here comes near.
-#[derive(Drop)]
+#[derive(Clone, Copy)]
 pub(crate) struct Line {
     bytes: [u8; Line::ROOM],
     length: usize,

@@ -14,7 +14,7 @@ enum Job {
 }
 
 // Where the card goes, where one is asked for, and what is cared for.
-#[derive(Drop)]
+#[derive(Clone, Copy)]
 struct Wish {
     asked: bool,
     care: Care,

@@ -17,7 +17,7 @@ use text::Sheet;
 
 // By how many hundredths a curve may go beyond its knots before it is warned of, and whether one that is
 // warned of is refused.
-#[derive(Drop)]
+#[derive(Clone, Copy)]
 pub(crate) struct Care {
     bound: u32,
     strict: bool,
@@ -89,7 +89,7 @@ pub(crate) fn asked_for(bound: usize, manner: usize) -> Cared {
 // ---- a line for each gap
 
 // The gap, and of a sheet the line of its left knot; whether the curve's first end is free.
-#[derive(Drop)]
+#[derive(Clone, Copy)]
 struct Place {
     line: u32,
     from: u16,

@@ -7,7 +7,7 @@ use knots::Kind;
 const LINE: usize = 48;
 
 // At the front of three arrays, from a first minute on.
-#[derive(Drop)]
+#[derive(Clone, Copy)]
 pub(crate) struct Readings {
     pub(crate) first: u16,
     pub(crate) count: usize,
