@@ -41,7 +41,7 @@ handed c =
 pub weighed-sum-requires : goal.weighed-sum-requires
 weighed-sum-requires c =
     let h = handed c in
-    rw (h.y_is, h.u_is, h.z_is, h.v_is) ((c.requires.y_in, c.requires.z_in), (c.requires.u_in, c.requires.v_in))
+    rw (h.y_is, h.u_is, h.z_is, h.v_is) (record { y_bound = (c.requires.y_in, c.requires.z_in); u_bound = (c.requires.u_in, c.requires.v_in) })
 
 sum_is : (c : After-weighed-sum) → (let a = c.args in c.weighed-sum.result ≡ a.y *ℤ pos a.u +ℤ a.z *ℤ pos a.v)
 sum_is c =
