@@ -35,7 +35,7 @@ returns-else-size-eq0 c =
     let k = (goal.at.returns-else-size-eq0 c).In-Sound in
     let w = walks k in
     let h = c.if-size-eq0.false in
-    puts_given (is_out w h) (new_size w h) (c.slide.ensures ∙ new_bytes w h (bytes (goal.at.In-Sound k).Start))
+    puts_given (is_out w h) (new_size w h) (c.slide.ensures ∙ new_bytes w h (bytes (goal.at.In-Sound k).After-slice_known-1))
 
 pub overflow_add-from : goal.overflow_add-from
 overflow_add-from c = omega (arith, slot_inside (walks (goal.at.overflow_add-from c).In-Sound), (walks (goal.at.overflow_add-from c).In-Sound).within)
