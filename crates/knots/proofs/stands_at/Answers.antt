@@ -17,7 +17,7 @@ use Rattle.curve.specs.Card.{back}
 use Rattle.whole.proofs.Widened.{widened_fits, widened_is}
 use Rattle.knots.proofs.Stands.{above, not_above, gap_over, ordinate_beyond, it_stands}
 use Rattle.knots.proofs.stands_at.Goals as goal
-use Rattle.knots.proofs.stands_at.Goals.{After-beyond, Else-left_gap-gt-GAP, Joined-i-gt0, Start}
+use Rattle.knots.proofs.stands_at.Goals.{After-beyond, Else-left_gap-gt-GAP, Joined-i-gt0, Start, then-i-gt0+else-xs-i, else-i-gt0}
 
 pub returns-then-xs-i : goal.returns-then-xs-i
 unfolding back
@@ -30,7 +30,7 @@ passed : (c : Joined-i-gt0) → (let a = c.args in ltb 0 a.i && leb (get_or a.xs
 unfolding back
 passed c =
     let a = c.args in
-    above quintic a.xs.now a.ys.now a.i (⊎_elim (λ w. inl (w.0.true, w.3.false)) (λ w. inr w.false) c.if-i-gt0.branch)
+    above quintic a.xs.now a.ys.now a.i (elim c.if-i-gt0.branch [ then-i-gt0+else-xs-i w ↦ inl (w.if-i-gt0.true, w.if-xs-i.false) | else-i-gt0 w ↦ inr w.if-i-gt0.false ])
 
 pub returns-then-left_gap-gt-GAP : goal.returns-then-left_gap-gt-GAP
 unfolding quintic

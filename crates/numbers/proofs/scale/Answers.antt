@@ -21,13 +21,13 @@ pub units_of-slope-requires : goal.units_of-slope-requires
 units_of-slope-requires c =
     let s = (goal.at.units_of-slope-requires c).Start in
     let k = c.loop-k.k in
-    (finite_numbers (get_or s.args.t1 k no_pair) (s.requires.all_finite k (omega (arith, s.requires.n_le_most)))).0
+    (finite_numbers (get_or s.args.pairs k no_pair) (s.requires.all_finite k (omega (arith, s.requires.n_le_most)))).0
 
 pub units_of-curvature-requires : goal.units_of-curvature-requires
 units_of-curvature-requires c =
     let s = (goal.at.units_of-curvature-requires c).Start in
     let k = c.loop-k.k in
-    (finite_numbers (get_or s.args.t1 k no_pair) (s.requires.all_finite k (omega (arith, s.requires.n_le_most)))).1
+    (finite_numbers (get_or s.args.pairs k no_pair) (s.requires.all_finite k (omega (arith, s.requires.n_le_most)))).1
 
 pub loop-k-preserved : goal.loop-k-preserved
 loop-k-preserved c =

@@ -32,7 +32,7 @@ overflow_add-i c = omega (arith, inside (goal.at.overflow_add-i c).In-loop-i)
 pub loop-i-smaller : goal.loop-i-smaller
 loop-i-smaller c = omega (arith, c.loop-i-test.true)
 
-found : (c : After-knot_at-knot) → c.knot_at-knot.result ≡ knot_at c.args.t1 c.args.logs.now c.loop-i.i
+found : (c : After-knot_at-knot) → c.knot_at-knot.result ≡ knot_at c.args.sheet c.args.logs.now c.loop-i.i
 unfolding knot_at
 found c = rw (passed w16 _ c.knot_at-arg-in-loop-i-2-1.given) at c.knot_at-knot.ensures
 

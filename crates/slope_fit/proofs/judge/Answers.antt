@@ -13,9 +13,9 @@ use borrow.Author.Rules.{rules}
 use Rattle.slope_fit.proofs.judge.Goals as goal
 use Rattle.slope_fit.proofs.judge.Goals.{Start}
 
-room : (c : Start) → length c.args.minutes.now ≤ length c.args.t4
+room : (c : Start) → length c.args.minutes.now ≤ length c.args.worked
 room c =
-    let M : length c.args.t4 ≡ most = search rules in
+    let M : length c.args.worked ≡ most = search rules in
     omega (arith, M, c.requires.minutes_len_bound)
 
 pub slice_bounds-numbers_sound-end : goal.slice_bounds-numbers_sound-end
