@@ -6,7 +6,7 @@ ghost use Rattle.knots.specs.Lent.{lent};
 ghost use Rattle.words.specs.Said.{wrong_line};
 ghost use Rattle.writer.specs.Promise.{Writes};
 ghost use Rattle.gather.specs.Gathered.{plain, logged};
-ghost use Rattle.text.specs.Sheet.{most, sheet as sheet_of, blamed as blamed-word};
+ghost use Rattle.text.specs.Sheet.{most, sheet as sheet_of, blamed as blamed_word};
 ghost use Rattle.reply.specs.Knots.{log_at, gathered};
 ghost use Rattle.reply.specs.Mending.{mend_reply, mending_reply, knots_plan, text_plan, Mends};
 ghost use Rattle.reply.specs.Reply.{of_a_log, of_a_knot, blamed, refusing, refusing_knots, form_kind, form_left, form_right, reply_of, fit_reply, by_slopes, reply, Answers};
@@ -293,7 +293,7 @@ fn sheet_lists(
 // What is wrong in the text of a sheet, with the word that is to blame; the card stays as it is.
 fn complain(text: &[u8], wrong: u32, line: u32, to: &mut [u8]) -> Answered
     requires { 4096 ≤ length to.old }
-    ensures { Answers (refusing (wrong_line wrong line (blamed-word text.now line)) []) to.old to.new [] result }
+    ensures { Answers (refusing (wrong_line wrong line (blamed_word text.now line)) []) to.old to.new [] result }
 {
     let word = text::blamed(text, line);
     let length = words::wrong_line(to, wrong, line, word);

@@ -95,9 +95,9 @@ next_line (x ∷ ls) (suc m) e = next_line ls m e
 module _ (mends : Bool) (s : List ℕ) where
   named_read : {a : Sheet} → Roomy a → Named s a → (m : ℕ) (ls : List (List ℕ)) → drop m (lines s) ≡ ls → Named s (read mends a (suc m) ls)
   unfolding read
-  named_read r named m [] e = named
+  named_read {a} r named m [] e = named
   named_read {a} r named m (l ∷ ls) e =
-      go (goes_on a) refl (λ h. named_read (roomy_taken mends r (has_room a h) (suc m) (line l)) (named_taken s r (has_room a h) named (suc m) mends (line l) here) (suc m) ls (next_line (lines s) m e).1)
+      go (goes_on a) refl (λ h. named_read {a = taken mends a (suc m) (line l)} (roomy_taken mends r (has_room a h) (suc m) (line l)) (named_taken s r (has_room a h) named (suc m) mends (line l) here) (suc m) ls (next_line (lines s) m e).1)
     where
       here : on_line s (suc m) ≡ line l
       here = unfold line in unfold bare_line in rw (next_line (lines s) m e).0

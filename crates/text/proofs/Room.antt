@@ -77,8 +77,8 @@ roomy_taken false r h n (Hole x) = roomy_refused is_hole n
 module _ (mends : Bool) where
   roomy_read : {a : Sheet} → Roomy a → (n : ℕ) (ls : List (List ℕ)) → Roomy (read mends a n ls)
   unfolding read
-  roomy_read r n [] = r
-  roomy_read {a} r n (l ∷ ls) = go (goes_on a) refl (λ h. roomy_read (roomy_taken mends r (has_room a h) n (line l)) (suc n) ls)
+  roomy_read {a} r n [] = r
+  roomy_read {a} r n (l ∷ ls) = go (goes_on a) refl (λ h. roomy_read {a = taken mends a n (line l)} (roomy_taken mends r (has_room a h) n (line l)) (suc n) ls)
     where
       go : (b : Bool) → goes_on a ≡ b → (goes_on a ≡ true → Roomy (read mends (taken mends a n (line l)) (suc n) ls))
           → Roomy (cond b (read mends (taken mends a n (line l)) (suc n) ls) a)

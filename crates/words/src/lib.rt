@@ -150,8 +150,8 @@ pub fn put_sentence(to: &mut [u8], at: usize, table: Table, n: u32) -> usize
 
 // The line of a sheet, where one is to blame.
 fn put_line(to: &mut [u8], at: usize, line: u32) -> usize
-    requires { at + length (at-line line) ≤ length to.old }
-    ensures { Put (at-line line) to.old to.new at result }
+    requires { at + length (at_line line) ≤ length to.old }
+    ensures { Put (at_line line) to.old to.new at result }
 {
     if line == 0 {
         return decimal::put_words(to, at, b": ");
@@ -186,7 +186,7 @@ fn put_place(to: &mut [u8], at: usize, number: u32, place: u32, line: u32) -> us
 
 fn put_refused(to: &mut [u8], at: usize, number: u32) -> usize
     requires { at + longest + 31 ≤ length to.old }
-    ensures { Put (refused-words number) to.old to.new at result }
+    ensures { Put (refused_words number) to.old to.new at result }
 {
     let after_number = decimal::put_worded(to, at, b"refused ", number as u64);
     let next = decimal::put_words(to, after_number, b": ");
@@ -197,7 +197,7 @@ fn put_refused(to: &mut [u8], at: usize, number: u32) -> usize
 // A refusal, at the front of a buffer: its line of a sheet or 0, its place, its number and its sentence.
 pub fn refused_line(to: &mut [u8], number: u32, place: u32, line: u32) -> usize
     requires { 4096 ≤ length to.old }
-    ensures { Put (refused-line number place line) to.old to.new 0 result }
+    ensures { Put (refused_line number place line) to.old to.new 0 result }
 {
     let after_line = put_line(to, 0, line);
     let after_place = put_place(to, after_line, number, place, line);
@@ -242,7 +242,7 @@ fn put_shown(to: &mut [u8], at: usize, line: u32, word: &[u8]) -> usize
 // What is wrong in the text of a sheet, at the front of a buffer: its line, the word that is to blame, and its sentence.
 pub fn wrong_line(to: &mut [u8], wrong: u32, line: u32, word: &[u8]) -> usize
     requires { 4096 ≤ length to.old }
-    ensures { Put (wrong-line wrong line word.now) to.old to.new 0 result }
+    ensures { Put (wrong_line wrong line word.now) to.old to.new 0 result }
 {
     let after_line = put_line(to, 0, line);
     let after_word = put_shown(to, after_line, line, word);
@@ -254,7 +254,7 @@ pub fn wrong_line(to: &mut [u8], wrong: u32, line: u32, word: &[u8]) -> usize
 // What is said of a knot that was mended, at the front of a buffer: its line of a sheet or 0, its place, and its new ordinate.
 pub fn mended_line(to: &mut [u8], line: u32, knot: u32, new: i32) -> usize
     requires { 4096 ≤ length to.old }
-    ensures { Put (mended-line line knot new) to.old to.new 0 result }
+    ensures { Put (mended_line line knot new) to.old to.new 0 result }
 {
     let after_line = put_line(to, 0, line);
     let after_knot = decimal::put_worded(to, after_line, b"knot ", knot as u64);

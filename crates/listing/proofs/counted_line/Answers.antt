@@ -20,7 +20,7 @@ four_fields-next-requires c =
 
 fields_put : (c : After-four_fields-next)
     → (let a = c.args in
-    Put (four_fields a.x a.y a.m a.c space) a.text.now c.four_fields-next.new.0 a.at c.four_fields-next.result)
+    Put (four_fields a.x a.y a.m a.c space) a.text.now c.four_fields-next.new.text a.at c.four_fields-next.result)
 fields_put c = let a = (goal.at.After-four_fields-next c).Start in rw (to_z-of_z a.ranges.y, to_z-of_z a.ranges.m, to_z-of_z a.ranges.c) at c.four_fields-next.ensures
 
 pub put_field-requires : goal.put_field-requires

@@ -17,20 +17,20 @@ use Rattle.listing.proofs.four_fields.Goals.{After-put_field-after_m, After-put_
 
 by_x : (c : After-put_field-after_x)
     → (let a = c.args in
-    Put (field (pos a.x) space) a.text.now c.put_field-after_x.new.0 a.at c.put_field-after_x.result)
+    Put (field (pos a.x) space) a.text.now c.put_field-after_x.new.text a.at c.put_field-after_x.result)
 by_x c =
     let a = (goal.at.After-put_field-after_x c).Start in
     rw (to_z_pos w64 {n = a.args.x} (omega (arith, a.ranges.x))) at c.put_field-after_x.ensures
 
 by_y : (c : After-put_field-after_y)
     → (let a = c.args in
-    Put (field (pos a.x) space ++ field a.y space) a.text.now c.put_field-after_y.new.0 a.at c.put_field-after_y.result)
+    Put (field (pos a.x) space ++ field a.y space) a.text.now c.put_field-after_y.new.text a.at c.put_field-after_y.result)
 by_y c =
     put_then (by_x (goal.at.After-put_field-after_y c).After-put_field-after_x) (rw (widened w32 w64 tt c.ranges.y) at c.put_field-after_y.ensures)
 
 by_m : (c : After-put_field-after_m)
     → (let a = c.args in
-    Put (field (pos a.x) space ++ field a.y space ++ field a.m space) a.text.now c.put_field-after_m.new.0 a.at c.put_field-after_m.result)
+    Put (field (pos a.x) space ++ field a.y space ++ field a.m space) a.text.now c.put_field-after_m.new.text a.at c.put_field-after_m.result)
 by_m c =
     put_then (by_y (goal.at.After-put_field-after_m c).After-put_field-after_y) (rw (widened w32 w64 tt c.ranges.m) at c.put_field-after_m.ensures)
 

@@ -27,7 +27,7 @@ returns-then-number-ne0 c =
 pub knot_lines-next-requires : goal.knot_lines-next-requires
 knot_lines-next-requires c =
     let a = (goal.at.knot_lines-next-requires c).Start in
-    (a.requires.ordinates_len, omega (arith, a.requires.minutes_len_bound))
+    record { ordinates_len = a.requires.ordinates_len; minutes_in_bounds = omega (arith, a.requires.minutes_len_bound) }
 
 pub accepted_line-requires : goal.accepted_line-requires
 accepted_line-requires c =

@@ -7,6 +7,6 @@ use Rattle.reply.proofs.mend_lists.Goals as goal
 
 pub returns : goal.returns
 returns c =
-    let a = c.before.before.before.before.before.before.before.before.before.before.before.before.before.before.before.before.before.before.before.before.before.args in
-    let p = c.mend.ensures in
+    let a = c.args in
+    let p = c.mend-plan.ensures in
     record { answers = answers_as (replies_mended quintic p a.minutes.now a.faults.now a.lines a.card.now) c.told-answered.ensures; changes = p.plan; lines = refl }

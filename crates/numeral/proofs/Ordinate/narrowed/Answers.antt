@@ -16,7 +16,7 @@ use Rattle.numeral.proofs.Ordinate.narrowed.Goals.{Else-z-gt32767, In-Told}
 
 -- the number as it is compared
 same : (c : In-Told) → to_z w32 (of_z w32 c.in-Told.z) ≡ c.in-Told.z
-same c = passed w32 c.in-Told.z c.known_told-in-Told-1.given.0.1
+same c = passed w32 c.in-Told.z c.in-Told.known_told-in-Told-1-own.given.0.1
 
 in_16_bits : (z : ℤ) → lt_z z (negsuc 32767) ≡ false → lt_z (pos 32767) z ≡ false → mag z < 2 ^ 15
 in_16_bits (pos n) l g = omega (arith, ltb-false 32767 n g)

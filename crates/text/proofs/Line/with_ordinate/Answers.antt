@@ -15,4 +15,4 @@ returns-in-Hole c = rw c.in-Hole.is
 
 pub returns-in-Given : goal.returns-in-Given
 unfolding with_ordinate
-returns-in-Given c = rw (c.in-Given.is, passed w16 c.in-Given.y c.known_told-in-Given-1.given.0.1)
+returns-in-Given c = rw (c.in-Given.is, passed w16 c.in-Given.y c.in-Given.known_told-in-Given-1-own.given.0.1)

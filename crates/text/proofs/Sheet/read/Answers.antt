@@ -4,7 +4,7 @@ use mathlib.Core.Path.{ap, ◌∙◌}
 use native.Mathlib.Omega.{arith}
 use lib.ListN.{length}
 use borrow.Author.Rules.{rules}
-use borrow.Author.Tests.{lt-ltb, ltb-true, ltb-false, leb-true, leb-false}
+use borrow.Author.Tests.{lt-ltb}
 use Rattle.split.specs.Parts.{until}
 use Rattle.text.specs.Sheet.{sheet}
 use Rattle.split.specs.declared.Mark.TheVariants.{LineEnd}
@@ -20,10 +20,10 @@ pub loop-sheet-init : goal.loop-sheet-init
 loop-sheet-init c = rw c.refused-sheet.ensures (reading_starts _ _)
 
 pub from-requires : goal.from-requires
-from-requires c = leb-true _ _ c.if-at-text.true
+from-requires c = c.if-at-text.true
 
 pub taken-sheet-requires : goal.taken-sheet-requires
-taken-sheet-requires c = ltb-true _ _ c.if-sheet-lt-MOST.true
+taken-sheet-requires c = c.if-sheet-lt-MOST.true
 
 next : (c : After-taken-sheet)
     → Reading c.args.mends c.args.text.now c.taken-sheet.result
@@ -34,7 +34,7 @@ next c =
     let l = q.loop-sheet in
     let f = c.until-found.ensures ∙ ap (until LineEnd) c.from.ensures in
     rw (c.taken-sheet.ensures, c.of.ensures, f)
-    (reading_goes_on l.invariant (going _ q.loop-sheet-test.true (ltb-true _ _ q.if-sheet-lt-MOST.true)) (leb-true _ _ q.if-at-text.true))
+    (reading_goes_on l.invariant (going _ q.loop-sheet-test.true q.if-sheet-lt-MOST.true) q.if-at-text.true)
 
 pub overflow_add-line : goal.overflow_add-line
 overflow_add-line c = omega (arith, (next c).few, (next c).within)
@@ -52,12 +52,12 @@ pub loop-sheet-preserved : goal.loop-sheet-preserved
 loop-sheet-preserved c = next c
 
 pub returns-else-at-text : goal.returns-else-at-text
-returns-else-at-text c = reading_ends c.loop-sheet.invariant (omega arith) (leb-false _ _ c.if-at-text.false)
+returns-else-at-text c = reading_ends c.loop-sheet.invariant (omega arith) c.if-at-text.false
 
 pub returns-else-sheet-lt-MOST : goal.returns-else-sheet-lt-MOST
 returns-else-sheet-lt-MOST c =
     let l = c.loop-sheet in
-    reading_stops l.invariant (omega arith) (full _ (ltb-false _ _ c.if-sheet-lt-MOST.false))
+    reading_stops l.invariant (omega arith) (full _ c.if-sheet-lt-MOST.false)
 
 pub returns-after-loop-sheet : goal.returns-after-loop-sheet
 returns-after-loop-sheet c =
