@@ -7,6 +7,8 @@
 // output, complaints to standard error, and one byte to descriptor 3, since a program of Rattle has no exit
 // status (`tell`). What is proved of the lines is said in the crates that are called; here every function is
 // proved safe and ending.
+#![tactic(auto)]
+
 mod arguments;
 mod books;
 mod cards;
@@ -14,6 +16,7 @@ mod checks;
 mod explained;
 mod files;
 mod heats;
+mod host;
 mod line;
 mod logs;
 mod numbers;
@@ -25,40 +28,40 @@ mod tables;
 mod tell;
 mod weights;
 
-fn run(command: &[u8], count: usize) -> u8 {
+fn run(rt: HostRuntime, command: &[u8], count: usize) -> u8 {
     if arguments::same(command, b"fit") {
-        return sheets::fit(count);
+        return sheets::fit(rt, count);
     }
     if arguments::same(command, b"free") {
-        return sheets::fit_free(count);
+        return sheets::fit_free(rt, count);
     }
     if arguments::same(command, b"mend") {
-        return sheets::mend(count);
+        return sheets::mend(rt, count);
     }
     if arguments::same(command, b"mean") {
-        return logs::mean();
+        return logs::mean(rt);
     }
     if arguments::same(command, b"preheat") {
-        return heats::print();
+        return heats::print(rt);
     }
     if arguments::same(command, b"why") {
-        return numbers::why();
+        return numbers::why(rt);
     }
     if arguments::same(command, b"weights") {
-        return weights::print();
+        return weights::print(rt);
     }
     if arguments::same(command, b"book") {
-        return books::run(count);
+        return books::run(rt, count);
     }
     if arguments::same(command, b"save") {
-        return files::save_input();
+        return files::save_input(rt);
     }
-    cards::run(command, count)
+    cards::run(rt, command, count)
 }
 
-fn main() {
+fn main(rt: HostRuntime) {
     let mut command = io::buffer();
-    let n = os::arg(1, &mut command);
-    let status = run(&command[..n], os::arg_count());
+    let n = crate::host::arg(rt, 1, &mut command);
+    let status = run(rt, &command[..n], crate::host::arg_count(rt));
     io::write_all(3, &[status]);
 }

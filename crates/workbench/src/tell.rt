@@ -20,12 +20,14 @@ pub(crate) fn front(text: &[u8], n: usize) -> &[u8] {
 }
 
 // To standard output; a full disk is told.
-pub(crate) fn print(said: &[u8]) -> u8 {
-    if io::write_all(1, said) {
-        return DONE;
+pub(crate) fn print(rt: HostRuntime, said: &[u8]) -> u8 {
+    match rt.write_all(said) {
+        Ok(()) => DONE,
+        Err(error) => {
+            crate::host::fail(b"standard output", error);
+            FAILED
+        }
     }
-    os::fail(b"standard output");
-    FAILED
 }
 
 // One line behind the name of what is refused.
