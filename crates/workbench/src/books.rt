@@ -57,7 +57,7 @@ fn list_rooms(rt: HostRuntime, file: &[u8], bytes: &[u8]) -> Listed {
     let mut status = crate::tell::DONE;
     let mut rooms: usize = 0;
     let mut at: usize = 0;
-    while at < bytes.len() {
+    while at < bytes.len() && status != crate::tell::GONE {
         let Step::Room { room, next } = book::step_at(bytes, at) else {
             return Listed { status, rooms };
         };

@@ -69,7 +69,7 @@ fn at(rt: HostRuntime, name: &[u8], bytes: &[u8], count: usize) -> u8 {
     }
     let mut status = crate::tell::DONE;
     let mut i: usize = 3;
-    while i < count {
+    while i < count && status != crate::tell::GONE {
         status = crate::tell::graver(status, at_argument(rt, name, bytes, i));
         i += 1;
     }
@@ -157,7 +157,7 @@ fn with_argument(rt: HostRuntime, i: usize, job: Job) -> u8 {
 fn check_all(rt: HostRuntime, count: usize, care: Care) -> u8 {
     let mut status = crate::tell::DONE;
     let mut i: usize = 4;
-    while i < count {
+    while i < count && status != crate::tell::GONE {
         status = crate::tell::graver(status, with_argument(rt, i, Job::Check(care)));
         i += 1;
     }

@@ -28,6 +28,8 @@ mod tables;
 mod tell;
 mod weights;
 
+use std::process::ExitCode;
+
 fn run(rt: HostRuntime, command: &[u8], count: usize) -> u8 {
     if arguments::same(command, b"fit") {
         return sheets::fit(rt, count);
@@ -59,9 +61,16 @@ fn run(rt: HostRuntime, command: &[u8], count: usize) -> u8 {
     cards::run(rt, command, count)
 }
 
-fn main(rt: HostRuntime) {
+// The status with which a shell sees a program that wrote to a pipe that nobody reads.
+const PIPE: u8 = 141;
+
+fn main(rt: HostRuntime) -> ExitCode {
     let mut command = io::buffer();
-    let n = crate::host::arg(rt, 1, &mut command);
-    let status = run(rt, &command[..n], crate::host::arg_count(rt));
+    let n = host::arg(rt, 1, &mut command);
+    let status = run(rt, &command[..n], host::arg_count(rt));
+    if status == tell::GONE {
+        return ExitCode::from(PIPE);
+    }
     io::write_all(3, &[status]);
+    ExitCode::SUCCESS
 }
