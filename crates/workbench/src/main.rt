@@ -19,14 +19,14 @@ mod heats;
 mod host;
 mod line;
 mod logs;
-mod numbers;
 mod rooms;
 mod sheets;
 mod slots;
 mod swings;
 mod tables;
 mod tell;
-mod weights;
+mod weight_lines;
+mod whys;
 
 use std::process::ExitCode;
 
@@ -47,10 +47,10 @@ fn run(rt: HostRuntime, command: &[u8], count: usize) -> u8 {
         return heats::print(rt);
     }
     if arguments::same(command, b"why") {
-        return numbers::why(rt);
+        return whys::why(rt);
     }
     if arguments::same(command, b"weights") {
-        return weights::print(rt);
+        return weight_lines::print(rt);
     }
     if arguments::same(command, b"book") {
         return books::run(rt, count);
