@@ -260,8 +260,12 @@ def convert(crate, folder, entry, module):
         lines = [l for l in decl.split("\n") if not l.startswith("--")]
         code = "\n".join(lines)
         m = re.match(r"(?:(?:abbrev|unfoldable|pub) )*(" + W + r")\s*:\s(.*?)\n(?=\S)(.*)", code, re.S)
-        if not m:
+        if not m or code.startswith("module "):
             for it in re.finditer(r"\((" + W + r")\s*:\s*tie\.(" + W + r")", code):
+                p = norm(it[2])
+                if p in fn.places:
+                    env[it[1]] = p
+            for it in re.finditer(r"(?m)^  (?:abbrev )?(" + W + r")\s*:\s*tie\.(" + W + r")", code):
                 p = norm(it[2])
                 if p in fn.places:
                     env[it[1]] = p

@@ -14,8 +14,7 @@ use Rattle.mend.proofs.mend_alike.Goals.{After-filled-mended}
 
 pub filled-mended-requires : goal.filled-mended-requires
 filled-mended-requires c =
-    let alike = c.before.before.before.before.before.before.requires in
-    ((omega (arith, alike.many, alike.ordinates), alike.ordinates), fillable alike.ordinates (has_bridges _ _ _ (step_accepts c.mendable.ensures c.enum_told.given.1)))
+    let alike = c.before.before.before.before.before.before.requires in record { ys_len_bound = (omega (arith, alike.many, alike.ordinates), alike.ordinates); fillable = fillable alike.ordinates (has_bridges _ _ _ (step_accepts c.mendable.ensures c.enum_told.given.1)) }
 
 mended_is : (c : After-filled-mended) → (let a = c.before.before.before.before.before.before.before.args in take (length a.ordinates.now) c.filled-mended.result ≡ mended a.minutes.now a.ordinates.now)
 mended_is c = front_filled _ _ Line c.filled-mended.ensures

@@ -8,7 +8,7 @@ use Rattle.refit.proofs.anew.Goals.{After-fresh-arg-1}
 
 pub changed-requires : goal.changed-requires
 changed-requires c =
-    let t = search rules in record { full = t.0; slopes_len = t.1 }
+    let told = search rules in record { full = told.0; slopes_len = told.1 }
 
 pub returns-then-fitted-eq0 : goal.returns-then-fitted-eq0
 returns-then-fitted-eq0 c =

@@ -39,7 +39,7 @@ returns-in-Refused c =
 
 pub put_card-requires : goal.put_card-requires
 put_card-requires c = let t =
-    let t = ready (goal.at.put_card-requires c).In_default in omega arith in record { minutes_len_bound = t.0; ordinates_len = t.1; minutes_in_bounds = t.2 }
+    let told = ready (goal.at.put_card-requires c).In_default in omega arith in record { minutes_len_bound = told.0; ordinates_len = told.1; minutes_in_bounds = told.2 }
 
 pub overflow_mul-result : goal.overflow_mul-result
 overflow_mul-result c = let t = ready (goal.at.overflow_mul-result c).In_default in omega arith
