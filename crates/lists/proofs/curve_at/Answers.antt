@@ -57,8 +57,8 @@ handed : (c : After-knot_at-b) → (let d = start c in Handed (to_z w64 (h d)) (
 handed c = record { h_is = to_z_pos w64 (small (goal.at.After-knot_at-b c).After-shared_slice_known-3-1); a_is = c.knot_at-a.ensures; b_is = c.knot_at-b.ensures }
 
 pub of-requires : goal.of-requires
-of-requires c = let d =
-    let told = start c in asks_same (handed c) (settled_minute d.requires.checked d.args.i (next d) (last d)) (settled_gap d.requires.checked d.args.i (next d) (last d)) in record { in_gap = told.0; tame = told.1 }
+of-requires c =
+    let told = (let d = start c in asks_same (handed c) (settled_minute d.requires.checked d.args.i (next d) (last d)) (settled_gap d.requires.checked d.args.i (next d) (last d))) in record { in_gap = told.0; tame = told.1 }
 
 pub returns : goal.returns
 returns c = c.of.ensures ∙ laid_same (handed (goal.at.returns c).After-knot_at-b)

@@ -330,15 +330,19 @@ pub overflow_sub-q-2 : goal.overflow_sub-q-2
 overflow_sub-q-2 c = step (for_level c) (v0 :- v1) tt
 
 pub overflow_mul-y0 : goal.overflow_mul-y0
+unfolding quintic
 overflow_mul-y0 c = step (for_level c) (v2 :* (v0 :- v1)) tt
 
 pub overflow_mul-y1 : goal.overflow_mul-y1
+unfolding quintic
 overflow_mul-y1 c = step (for_level c) (v3 :* v1) tt
 
 pub overflow_add-y0 : goal.overflow_add-y0
+unfolding quintic
 overflow_add-y0 c = step (for_level c) (v2 :* (v0 :- v1) :+ v3 :* v1) tt
 
 pub overflow_mul-q-2 : goal.overflow_mul-q-2
+unfolding quintic
 overflow_mul-q-2 c = step (for_level c) lineE tt
 
 pub overflow_mul-q-3 : goal.overflow_mul-q-3

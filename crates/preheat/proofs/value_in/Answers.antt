@@ -142,7 +142,7 @@ returns c =
     to_z-of_z {w = w64} (record { sfits = c.rounded.type_inv })
     ∙ gives (all e) seven (λ a q r u u' z z'. c.rounded.result ≡ nearest (worth (piece a q u u' z z') r) (nat_abs (a *ℤ (q *ℤ q *ℤ q)))) tt c.rounded.ensures
     ∙ moved₅ (λ a u u' z z'. nearest (worth (piece a (pos (parts e)) u u' z z') (pos (past e))) (nat_abs (a *ℤ (pos (parts e) *ℤ pos (parts e) *ℤ pos (parts e)))) ≡ value (ys e) (parts e) s.args.count)
-    (a_is e) (u_is e) (u'_is e) (z_is e) (z'_is e) (value_is (ys e) (parts e) s.args.count (i e) (d e).step_of.ensures)
+    (a_is e) (u_is e) (u'_is e) (z_is e) (z'_is e) (value_is (ys e) (parts e) s.args.count (i e) (d e).step_of-i.ensures)
 
 pub overflow_sub-past : goal.overflow_sub-past
 overflow_sub-past c = (fallen c).low

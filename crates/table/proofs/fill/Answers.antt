@@ -58,8 +58,8 @@ pub bounds-xs-j : goal.bounds-xs-j
 bounds-xs-j c = omega (arith, (gap_here (goal.at.bounds-xs-j c).In-loop-i).inside)
 
 pub stop-stop-requires : goal.stop-stop-requires
-stop-stop-requires c = let g =
-    gap_here (goal.at.stop-stop-requires c).In-loop-i in record { j_in_bounds = g.inside; from_bound = λ l. omega (arith, g.before l) }
+stop-stop-requires c =
+    let g = gap_here (goal.at.stop-stop-requires c).In-loop-i in record { j_in_bounds = g.inside; from_bound = λ l. omega (arith, g.before l) }
 
 pub loop-i-2-init : goal.loop-i-2-init
 loop-i-2-init c = (omega arith, not_past c.stop-stop.ensures (gap_here (goal.at.loop-i-2-init c).In-loop-i) (omega arith), on_none, on_none, on_none)
