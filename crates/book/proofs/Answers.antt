@@ -22,11 +22,11 @@ use Rattle.book.proofs.Runs.{gives, Sound, sound, run_inside, Stands, stands_so,
 -- ---- the walk
 
 -- a slot, or a number and a place, belong to one answer only, so that a promise of them leaves one outcome
-pub one-walked : (a b : Walked) → walked_of a ≡ walked_of b → a ≡ b
-one-walked (Sound-walk m) (Sound-walk n) e = ap Sound-walk (given_same e)
-one-walked (Sound-walk m) (Refused n p) e = absurd (not_both (sym e))
-one-walked (Refused n p) (Sound-walk m) e = absurd (not_both e)
-one-walked (Refused n p) (Refused m q) e = cc
+pub one_walked : (a b : Walked) → walked_of a ≡ walked_of b → a ≡ b
+one_walked (Sound-walk m) (Sound-walk n) e = ap Sound-walk (given_same e)
+one_walked (Sound-walk m) (Refused n p) e = absurd (not_both (sym e))
+one_walked (Refused n p) (Sound-walk m) e = absurd (not_both e)
+one_walked (Refused n p) (Refused m q) e = cc
 
 -- it refuses where the book is refused
 pub walk_refused : (r : ℕ) (s : List ℕ) {n p : ℕ} → walked r s ≡ refused n p → book s ≡ refused n p
@@ -48,9 +48,9 @@ pub record Walks (r : ℕ) (s : List ℕ) (m : Slot) : Type 0 where
   pub inside : m.bytes ≤ length s
   pub within : m.bytes ≤ most
 
-pub walk-sound : (r : ℕ) (s : List ℕ) {m : Slot} → walked r s ≡ given m → Walks r s m
+pub walk_sound : (r : ℕ) (s : List ℕ) {m : Slot} → walked r s ≡ given m → Walks r s m
 unfolding walked
-walk-sound r s {m} e =
+walk_sound r s {m} e =
     let g = gives (book s) _ e in
     let q : slot r g.what ≡ m = given_same g.follows in
     let b : m.bytes ≡ size g.what = sym (ap (λ x. x.bytes) q) in
@@ -69,32 +69,32 @@ walk-sound r s {m} e =
 
 -- ---- the book's own test
 
-pub told-refused : (s : List ℕ) {n p : ℕ} → book s ≡ refused n p → in_use (refused n p) ≡ in_use (book s)
-told-refused s e = ap in_use (sym e)
+pub told_refused : (s : List ℕ) {n p : ℕ} → book s ≡ refused n p → in_use (refused n p) ≡ in_use (book s)
+told_refused s e = ap in_use (sym e)
 
-pub told-bytes : {r : ℕ} {s : List ℕ} {m : Slot} → Walks r s m → ◌≡◌ {A = Used} (record { number = 0; place = 0; bytes = m.bytes }) (in_use (book s))
+pub told_bytes : {r : ℕ} {s : List ℕ} {m : Slot} → Walks r s m → ◌≡◌ {A = Used} (record { number = 0; place = 0; bytes = m.bytes }) (in_use (book s))
 unfolding in_use
-told-bytes w = ap (λ b. record { number = 0; place = 0; bytes = b }) w.bytes ∙ ap in_use (sym w.is)
+told_bytes w = ap (λ b. record { number = 0; place = 0; bytes = b }) w.bytes ∙ ap in_use (sym w.is)
 
 -- ---- looking up
 
 -- a refusal has no start
-pub spot-refused : (r : ℕ) (s : List ℕ) {n p : ℕ} → look_up r s ≡ refused n p → spot_at 0 (refused n p) ≡ spot r s
+pub spot_refused : (r : ℕ) (s : List ℕ) {n p : ℕ} → look_up r s ≡ refused n p → spot_at 0 (refused n p) ≡ spot r s
 unfolding spot_at spot
-spot-refused r s e = rw e
+spot_refused r s e = rw e
 
-pub book-refused : (r : ℕ) (s : List ℕ) {n p : ℕ} → book s ≡ refused n p → look_up r s ≡ refused n p
+pub book_refused : (r : ℕ) (s : List ℕ) {n p : ℕ} → book s ≡ refused n p → look_up r s ≡ refused n p
 unfolding look_up ◌giving◌
-book-refused r s e = rw e
+book_refused r s e = rw e
 
 module _ {r : ℕ} {s : List ℕ} {m : Slot} (w : Walks r s m) where
   held_next : {a : Answer (List ℕ)} → held r w.es ≡ a → look_up r s ≡ (a giving λ c. own c then given c)
   unfolding look_up ◌giving◌
   held_next e = rw (w.is, e)
 
-  pub room-absent : m.size ≡ 0 → look_up r s ≡ refused 20 0
+  pub room_absent : m.size ≡ 0 → look_up r s ≡ refused 20 0
   unfolding ◌giving◌
-  room-absent h = held_next (nothing_there r w.sound.up (sym w.size ∙ h))
+  room_absent h = held_next (nothing_there r w.sound.up (sym w.size ∙ h))
 
   -- the card that the slot holds
   pub record Found : Type 0 where
@@ -102,36 +102,36 @@ module _ {r : ℕ} {s : List ℕ} {m : Slot} (w : Walks r s m) where
     pub stands : Stands s m.at m.size card
     pub answer : look_up r s ≡ (own card then given card)
 
-  pub room-there : (m.size ≡ 0 → ⊥) → Found
+  pub room_there : (m.size ≡ 0 → ⊥) → Found
   unfolding ◌giving◌
-  room-there h =
+  room_there h =
       let t = is_there r w.sound.run (λ z. h (w.size ∙ z)) in
       record { card = t.card; stands = stands_so (omega (arith, w.at)) w.size t.stands; answer = held_next t.is }
 
-  pub spot-found : (f : Found) {at n : ℕ} → own f.card ≡ accepted → at ≡ m.at + 6 → n ≡ length f.card
+  pub spot_found : (f : Found) {at n : ℕ} → own f.card ≡ accepted → at ≡ m.at + 6 → n ≡ length f.card
       → ◌≡◌ {A = Spot} (record { number = 0; place = 0; start = at; length = n }) (spot r s)
   unfolding spot spot_at rooms
-  spot-found f e p q = rw (f.answer ∙ both_accept e refl, w.is, p, q, w.at)
+  spot_found f e p q = rw (f.answer ∙ both_accept e refl, w.is, p, q, w.at)
 
 -- ---- a card that is found
 
-pub record Looked-up (r : ℕ) (s c : List ℕ) : Type 0 where
+pub record LookedUp (r : ℕ) (s c : List ℕ) : Type 0 where
   pub es : List Entry
   pub is : book s ≡ given es
   pub here : held r es ≡ given c
   pub passes : own c ≡ accepted
 
-pub looked-up : (r : ℕ) (s : List ℕ) {c : List ℕ} → look_up r s ≡ given c → Looked-up r s c
+pub looked_up : (r : ℕ) (s : List ℕ) {c : List ℕ} → look_up r s ≡ given c → LookedUp r s c
 unfolding look_up
-looked-up r s {c} e =
+looked_up r s {c} e =
     let g = gives (book s) _ e in
     let h = gives (held r g.what) _ g.follows in
     let q : h.what ≡ c = given_same (next_accepts (own h.what) _ h.follows) in
     record { es = g.what; is = g.gave; here = h.gave ∙ ap given q; passes = ap own (sym q) ∙ first_accepts (own h.what) _ h.follows }
 
 -- it stands behind the records before it, and six bytes of its own
-pub found-stands : {r : ℕ} {s c : List ℕ} (l : Looked-up r s c) → Stands s (before r l.es) (there r l.es) c
-found-stands {r} {s} {c} l =
+pub found_stands : {r : ℕ} {s c : List ℕ} (l : LookedUp r s c) → Stands s (before r l.es) (there r l.es) c
+found_stands {r} {s} {c} l =
     let o = sound l.is in
     let t = is_there r o.run (λ z. not_both (sym (nothing_there r o.up z) ∙ l.here)) in
     let q : t.card ≡ c = given_same (sym t.is ∙ l.here) in
@@ -153,7 +153,7 @@ handed r s = go (look_up r s) refl
     go : (a : Answer (List ℕ)) → look_up r s ≡ a → Handed s (spot_at start a) (part a)
     go (refused n p) e = record { inside = omega arith; is = refl }
     go (given c) e =
-        let l = looked-up r s e in
-        let k = found-stands l in
+        let l = looked_up r s e in
+        let k = found_stands l in
         let n : rooms (book s) ≡ l.es = ap rooms l.is in
         rw n (record { inside = omega (arith, k.inside); is = k.part })

@@ -70,7 +70,7 @@ module _ (s : List ℕ) where
   unfolding scan ◌giving◌
   scans {at} {es} r zero l = absurd (omega (arith, (run_inside r).0, size_least es))
   scans {at} (closed t) (suc k) l = rw t
-  scans {at} (further t u r) (suc k) l = rw (t, u, scans r k (omega (arith, (holding s at u).two)))
+  scans {at} (further t u r) (suc k) l = rw (t, u, scans {at = next s at} r k (omega (arith, (holding s at u).two)))
 
 -- ---- a sound book
 

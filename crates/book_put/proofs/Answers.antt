@@ -22,21 +22,21 @@ use Rattle.book_put.proofs.Splicing.{put_buffer}
 
 -- ---- a refusal, and an acceptance
 
-pub puts-refused : {a : Answer (List Entry)} {n p : ℕ} {s : List ℕ} {r : Used} → a ≡ refused n p → r ≡ in_use (refused n p) → Puts a s s r
+pub puts_refused : {a : Answer (List Entry)} {n p : ℕ} {s : List ℕ} {r : Used} → a ≡ refused n p → r ≡ in_use (refused n p) → Puts a s s r
 unfolding after
-puts-refused e f = record { answer = f ∙ ap in_use (sym e); buffer = rw e }
+puts_refused e f = record { answer = f ∙ ap in_use (sym e); buffer = rw e }
 
-pub puts-given : {a : Answer (List Entry)} {es : List Entry} {s exit : List ℕ} {n : ℕ}
+pub puts_given : {a : Answer (List Entry)} {es : List Entry} {s exit : List ℕ} {n : ℕ}
     → a ≡ given es → n ≡ size es → exit ≡ book_bytes es ++ drop (size es) s → Puts a s exit (record { number = 0; place = 0; bytes = n })
 unfolding after in_use
-puts-given e f g = record { answer = rw (e, f); buffer = g ∙ rw e }
+puts_given e f g = record { answer = rw (e, f); buffer = g ∙ rw e }
 
 -- ---- 21
 
 module _ (d : Entry) (lent : ℕ) (es : List Entry) where
-  pub over-the-limit : most < size (put_in d es) → made d lent es ≡ refused 21 0
+  pub over_the_limit : most < size (put_in d es) → made d lent es ≡ refused 21 0
   unfolding made refuse ◌then◌
-  over-the-limit h = rw (lt-ltb most (size (put_in d es)) h)
+  over_the_limit h = rw (lt-ltb most (size (put_in d es)) h)
 
   pub over_the_buffer : lent < size (put_in d es) → made d lent es ≡ refused 21 0
   unfolding made refuse ◌then◌
@@ -49,8 +49,8 @@ module _ (d : Entry) (lent : ℕ) (es : List Entry) where
 -- ---- by the slot that a walk found
 
 -- which ends before the closing record
-pub slot-inside : {r : ℕ} {s : List ℕ} {m : Slot} → Walks r s m → m.at + m.size + 4 ≤ m.bytes
-slot-inside {r} w = omega (arith, w.at, w.size, w.bytes, before_closing r w.es)
+pub slot_inside : {r : ℕ} {s : List ℕ} {m : Slot} → Walks r s m → m.at + m.size + 4 ≤ m.bytes
+slot_inside {r} w = omega (arith, w.at, w.size, w.bytes, before_closing r w.es)
 
 module _ {r : ℕ} {s : List ℕ} {m : Slot} (w : Walks r s m) (c : List ℕ) where
   abbrev d : Entry
@@ -61,14 +61,14 @@ module _ {r : ℕ} {s : List ℕ} {m : Slot} (w : Walks r s m) (c : List ℕ) wh
   made_of e = rw w.is e
 
   -- "the book it would make"
-  pub new-size : m.bytes - m.size + (6 + length c) ≡ size (put_in d w.es)
-  new-size = omega (arith, slot-inside w, w.size, w.bytes, size_put d w.es)
+  pub new_size : m.bytes - m.size + (6 + length c) ≡ size (put_in d w.es)
+  new_size = omega (arith, slot_inside w, w.size, w.bytes, size_put d w.es)
 
-  pub new-least : 6 + length c ≤ size (put_in d w.es)
-  new-least = omega (arith, new-size)
+  pub new_least : 6 + length c ≤ size (put_in d w.es)
+  new_least = omega (arith, new_size)
 
-  pub new-bytes : Bytes s → spliced s m.at m.size m.bytes (entry_bytes d) ≡ book_bytes (put_in d w.es) ++ drop (size (put_in d w.es)) s
-  new-bytes b = cc (put_buffer b w.sound.run d, w.at, w.size, w.bytes)
+  pub new_bytes : Bytes s → spliced s m.at m.size m.bytes (entry_bytes d) ≡ book_bytes (put_in d w.es) ++ drop (size (put_in d w.es)) s
+  new_bytes b = cc (put_buffer b w.sound.run d, w.at, w.size, w.bytes)
 
   pub put_of : {a : Answer (List Entry)} → (own c then made d (length s) w.es) ≡ a → put r c s ≡ a
   unfolding put ◌giving◌

@@ -18,29 +18,29 @@ use Rattle.book_remove.specs.Remove.{without, remove}
 use Rattle.book_remove.proofs.Taking.{size_out}
 use Rattle.book_remove.proofs.Closing.{out_buffer}
 
-pub remove-refused : (r : ℕ) (s : List ℕ) {n p : ℕ} → book s ≡ refused n p → remove r s ≡ refused n p
+pub remove_refused : (r : ℕ) (s : List ℕ) {n p : ℕ} → book s ≡ refused n p → remove r s ≡ refused n p
 unfolding remove ◌giving◌
-remove-refused r s e = rw e
+remove_refused r s e = rw e
 
 module _ {r : ℕ} {s : List ℕ} {m : Slot} (w : Walks r s m) where
   held_next : {a : Answer (List ℕ)} → held r w.es ≡ a → remove r s ≡ (a giving λ c. given (without r w.es))
   unfolding remove ◌giving◌
   held_next e = rw (w.is, e)
 
-  pub room-absent : m.size ≡ 0 → remove r s ≡ refused 20 0
+  pub room_absent : m.size ≡ 0 → remove r s ≡ refused 20 0
   unfolding ◌giving◌
-  room-absent h = held_next (nothing_there r w.sound.up (sym w.size ∙ h))
+  room_absent h = held_next (nothing_there r w.sound.up (sym w.size ∙ h))
 
   module _ (h : m.size ≡ 0 → ⊥) where
     found : There s r 0 w.es
     found = is_there r w.sound.run (λ z. h (w.size ∙ z))
 
-    pub is-out : remove r s ≡ given (without r w.es)
+    pub is_out : remove r s ≡ given (without r w.es)
     unfolding ◌giving◌
-    is-out = held_next found.is
+    is_out = held_next found.is
 
-    pub new-size : m.bytes - m.size ≡ size (without r w.es)
-    new-size = omega (arith, size_out r w.sound.up found.is, found.stands.bytes, w.size, w.bytes)
+    pub new_size : m.bytes - m.size ≡ size (without r w.es)
+    new_size = omega (arith, size_out r w.sound.up found.is, found.stands.bytes, w.size, w.bytes)
 
-    pub new-bytes : Bytes s → paste s m.at (drop (m.at + m.size) s) (m.bytes - (m.at + m.size)) ≡ book_bytes (without r w.es) ++ drop (size (without r w.es)) s
-    new-bytes b = cc (out_buffer w.sound r found.is found.stands.bytes b, w.at, w.size, w.bytes)
+    pub new_bytes : Bytes s → paste s m.at (drop (m.at + m.size) s) (m.bytes - (m.at + m.size)) ≡ book_bytes (without r w.es) ++ drop (size (without r w.es)) s
+    new_bytes b = cc (out_buffer w.sound r found.is found.stands.bytes b, w.at, w.size, w.bytes)

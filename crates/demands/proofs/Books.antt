@@ -15,7 +15,7 @@ use Rattle.card.specs.Answers.{own}
 use Rattle.book.specs.Book.{Entry, entry_at, closes, holds, next, ◌giving◌, scan, rising, book}
 use Rattle.book.specs.Lookup.{held, look_up, part, before, rooms, spot_at, spot}
 use Rattle.book.specs.declared.Spot.{Spot}
-use Rattle.book.proofs.Answers.{handed, looked-up}
+use Rattle.book.proofs.Answers.{handed, looked_up}
 use Rattle.book_put.specs.Put.{made, put}
 use Rattle.book_remove.specs.Remove.{remove}
 use Rattle.bookkeeping.specs.Card.{card_in}
@@ -105,7 +105,7 @@ pub part_passes : (room : ℕ) (s : List ℕ) {r : Spot} → r ≡ spot room s �
 unfolding part
 part_passes room s e z =
     let g = (find_answers room s e).0.accepts z in
-    ap own (part_is room s e ∙ ap part g.is) ∙ (looked-up room s g.is).passes
+    ap own (part_is room s e ∙ ap part g.is) ∙ (looked_up room s g.is).passes
 
 pub handed_back : (c : ABookFind) → HandsBack c
 unfolding part ◌giving◌
@@ -117,7 +117,7 @@ handed_back c =
       inside = rw c.promised (handed room s).inside;
       its_card = λ z.
           let g = answers.0.accepts z in
-          let l = looked-up room s g.is in
+          let l = looked_up room s g.is in
           ap (λ b. b giving held room) l.is ∙ l.here ∙ ap given (sym (part_is room s c.promised ∙ ap part g.is));
       none = λ h. ap (λ n. take n (drop c.answer.start s)) (answers.1 h).1;
     }

@@ -202,7 +202,7 @@ use Rattle.moves.proofs.copy_in.Reads as copy-in
 use Rattle.book.specs.Book.{Entry}
 use Rattle.book.specs.declared.Used.{Used}
 use Rattle.book.proofs.Standing.{one_step}
-use Rattle.book.proofs.Answers.{one-walked}
+use Rattle.book.proofs.Answers.{one_walked}
 use Rattle.book.proofs.step_at.Reads as book-step
 use Rattle.book.proofs.walk.Reads as book-walk
 use Rattle.book.proofs.Used.refused.Reads as used-refused
@@ -491,7 +491,7 @@ moved = (equation _ _, equation _ _)
 
 -- the part that is handed back is told by its bytes
 pub book : Once book-step.Post × Once book-walk.Post × Once used-refused.Post × Once book-check.Post × Once book-own.Post × Once book_find.Post × Leaves book-lookup.Post (λ x s. x.now)
-book = ((λ κs a x y s t p q. one_step a.1.0 x y (one_outcome p q)), (λ κs a x y s t p q. one-walked x y (one_outcome p q)), equation _ _, equation _ _, judgement _, equation _ _, equation _ _)
+book = ((λ κs a x y s t p q. one_step a.1.0 x y (one_outcome p q)), (λ κs a x y s t p q. one_walked x y (one_outcome p q)), equation _ _, equation _ _, judgement _, equation _ _, equation _ _)
 
 -- the buffer is the first parameter
 pub put_in_a_book : Once book-put.Post × Lent book-put.Post (λ s. s.0.now)

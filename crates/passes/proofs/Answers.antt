@@ -21,9 +21,9 @@ use Rattle.front.proofs.Listed.{listed_same, get_d_listed}
 use Rattle.passes.proofs.Backs.{back_same, zeros_finite, pair_finite}
 
 -- the way back sees nothing of the states but those of its n knots
-pub back-from-same : (turn : State → Pair → Pair) (states states' : ℕ → State) (n : ℕ) → ((k : ℕ) → k < n → states k ≡ states' k) → back_from turn states n ≡ back_from turn states' n
+pub back_from_same : (turn : State → Pair → Pair) (states states' : ℕ → State) (n : ℕ) → ((k : ℕ) → k < n → states k ≡ states' k) → back_from turn states n ≡ back_from turn states' n
 unfolding back_from
-back-from-same turn states states' n same =
+back_from_same turn states states' n same =
     let there = back_same turn states states' n same in
     ap₂ returned (there n (le_refl n))
     (listed_same (pair_at turn states n) (pair_at turn states' n) most (λ k h. ap pair_of (there (n - k) (omega arith))))
@@ -32,41 +32,41 @@ went : (u : Run) (r : Solved) → 0 ≡ number_of u → r ≡ answered u r
 went (going x) r e = refl
 went (stuck i) r e = absurd (omega arith)
 
-stopped-there : (u : Run) (r : Solved) (m k : ℕ) → m ≡ number_of u → (m ≡ 0 → ⊥) → k ≡ place_of u → refused k ≡ answered u r
-stopped-there (going x) r m k e h p = absurd (h e)
-stopped-there (stuck i) r m k e h p = ap refused p
+stopped_there : (u : Run) (r : Solved) (m k : ℕ) → m ≡ number_of u → (m ≡ 0 → ⊥) → k ≡ place_of u → refused k ≡ answered u r
+stopped_there (going x) r m k e h p = absurd (h e)
+stopped_there (stuck i) r m k e h p = ap refused p
 
 module _ (step : State → ℕ → Step) (turn : State → Pair → Pair) (n : ℕ) (f : Forward) (forward : Forwarded step n f) where
-  pub forward-then-back : f.number ≡ 0 → back_from turn (λ k. get_or f.states k no_state) n ≡ passes step turn n
+  pub forward_then_back : f.number ≡ 0 → back_from turn (λ k. get_or f.states k no_state) n ≡ passes step turn n
   unfolding passes
-  forward-then-back z =
-      back-from-same turn (λ k. get_or f.states k no_state) (state_at step) n (λ k p. forward.states_are k z p)
+  forward_then_back z =
+      back_from_same turn (λ k. get_or f.states k no_state) (state_at step) n (λ k p. forward.states_are k z p)
       ∙ went (run_to step n) (back_from turn (state_at step) n) (sym z ∙ forward.number_is)
 
-  pub stuck-forward : (f.number ≡ 0 → ⊥) → refused f.place ≡ passes step turn n
+  pub stuck_forward : (f.number ≡ 0 → ⊥) → refused f.place ≡ passes step turn n
   unfolding passes
-  stuck-forward z = stopped-there (run_to step n) (back_from turn (state_at step) n) f.number f.place forward.number_is z forward.place_is
+  stuck_forward z = stopped_there (run_to step n) (back_from turn (state_at step) n) f.number f.place forward.number_is z forward.place_is
 
 -- ---- every pair of an answer is finite: those of a run that came to its end, and the zeros behind them or behind a refusal
 abbrev Finite : Solved → Type 0
 Finite r = (k : ℕ) → k < most → both_finite (get_or r.pairs k no_pair) ≡ true
 
-refused-finite : (i : ℕ) → Finite (refused i)
-refused-finite i k h = ap both_finite (get_or-replicate most k zero_pair no_pair h) ∙ zeros_finite
+refused_finite : (i : ℕ) → Finite (refused i)
+refused_finite i k h = ap both_finite (get_or-replicate most k zero_pair no_pair h) ∙ zeros_finite
 
 module _ (turn : State → Pair → Pair) (states : ℕ → State) (n : ℕ) where
-  returned-finite : (b : Back) → Finite (returned b (listed (pair_at turn states n) most))
-  returned-finite (back v) k h = ap both_finite (get_d_listed (pair_at turn states n) no_pair most k h) ∙ pair_finite turn states n k
-  returned-finite (stopped i) k h = refused-finite i k h
+  returned_finite : (b : Back) → Finite (returned b (listed (pair_at turn states n) most))
+  returned_finite (back v) k h = ap both_finite (get_d_listed (pair_at turn states n) no_pair most k h) ∙ pair_finite turn states n k
+  returned_finite (stopped i) k h = refused_finite i k h
 
-  back-from-finite : Finite (back_from turn states n)
+  back_from_finite : Finite (back_from turn states n)
   unfolding back_from
-  back-from-finite = returned-finite (back_to turn states n n)
+  back_from_finite = returned_finite (back_to turn states n n)
 
-answered-finite : (u : Run) (r : Solved) → Finite r → Finite (answered u r)
-answered-finite (going x) r f = f
-answered-finite (stuck i) r f = refused-finite i
+answered_finite : (u : Run) (r : Solved) → Finite r → Finite (answered u r)
+answered_finite (going x) r f = f
+answered_finite (stuck i) r f = refused_finite i
 
-pub pairs-finite : (step : State → ℕ → Step) (turn : State → Pair → Pair) (n k : ℕ) → k < most → both_finite (get_or (passes step turn n).pairs k no_pair) ≡ true
+pub pairs_finite : (step : State → ℕ → Step) (turn : State → Pair → Pair) (n k : ℕ) → k < most → both_finite (get_or (passes step turn n).pairs k no_pair) ≡ true
 unfolding passes
-pairs-finite step turn n = answered-finite (run_to step n) (back_from turn (state_at step) n) (back-from-finite turn (state_at step) n)
+pairs_finite step turn n = answered_finite (run_to step n) (back_from turn (state_at step) n) (back_from_finite turn (state_at step) n)

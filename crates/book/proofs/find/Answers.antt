@@ -9,17 +9,17 @@ use Rattle.answer.proofs.Chain.{step_refuses}
 use Rattle.card.specs.Answers.{own}
 use Rattle.book.specs.Steps.{walked_of}
 use Rattle.book.proofs.Runs.{Stands}
-use Rattle.book.proofs.Answers.{walk_refused, Walks, walk-sound, book-refused, spot-refused, room-absent, Found, room-there, spot-found}
+use Rattle.book.proofs.Answers.{walk_refused, Walks, walk_sound, book_refused, spot_refused, room_absent, Found, room_there, spot_found}
 use Rattle.book.proofs.find.Goals as goal
 use Rattle.book.proofs.find.Goals.{After-own, Else-size-eq0, In-Sound}
 
 -- the book is sound
 walks : (c : In-Sound) → (let a = c.args in Walks a.room a.book.now c.in-Sound.slot)
-walks c = walk-sound _ _ (sym c.walk.ensures ∙ ap walked_of c.in-Sound.is)
+walks c = walk_sound _ _ (sym c.walk.ensures ∙ ap walked_of c.in-Sound.is)
 
 -- and the room is there
 found : (c : Else-size-eq0) → Found (walks (goal.at.Else-size-eq0 c).In-Sound)
-found c = room-there (walks (goal.at.Else-size-eq0 c).In-Sound) c.if-size-eq0.false
+found c = room_there (walks (goal.at.Else-size-eq0 c).In-Sound) c.if-size-eq0.false
 
 stands : (c : Else-size-eq0) → (let m = c.in-Sound.slot in Stands c.args.book.now m.at m.size (found c).card)
 stands c = (found c).stands
@@ -34,17 +34,17 @@ judged c =
     c.own.ensures ∙ ap own (ap (λ i. take i (drop (m.at + 6) s)) n ∙ k.part)
 
 pub returns-then-size-eq0 : goal.returns-then-size-eq0
-returns-then-size-eq0 c = c.refused-then-size-eq0.ensures ∙ spot-refused _ _ (room-absent (walks (goal.at.returns-then-size-eq0 c).In-Sound) c.if-size-eq0.true)
+returns-then-size-eq0 c = c.refused-then-size-eq0.ensures ∙ spot_refused _ _ (room_absent (walks (goal.at.returns-then-size-eq0 c).In-Sound) c.if-size-eq0.true)
 
 pub returns-in-Refused : goal.returns-in-Refused
 returns-in-Refused c =
-    c.refused.ensures ∙ spot-refused _ _ (book-refused _ _ (walk_refused _ _ (sym c.walk.ensures ∙ ap walked_of c.in-Refused.is)))
+    c.refused.ensures ∙ spot_refused _ _ (book_refused _ _ (walk_refused _ _ (sym c.walk.ensures ∙ ap walked_of c.in-Refused.is)))
 
 pub returns-in-Refused-own : goal.returns-in-Refused-own
 returns-in-Refused-own c =
     let k = (goal.at.returns-in-Refused-own c).After-own in
     let f = found (goal.at.After-own k).Else-size-eq0 in
-    c.refused-in-Refused-own.ensures ∙ spot-refused _ _ (f.answer ∙ sym (step_refuses _ (judged k) c.in-Refused-own.is))
+    c.refused-in-Refused-own.ensures ∙ spot_refused _ _ (f.answer ∙ sym (step_refuses _ (judged k) c.in-Refused-own.is))
 
 pub returns-in-Accepted : goal.returns-in-Accepted
 returns-in-Accepted c =
@@ -52,7 +52,7 @@ returns-in-Accepted c =
     let w = walks (goal.at.After-own k).In-Sound in
     let f = found (goal.at.After-own k).Else-size-eq0 in
     let t = stands (goal.at.After-own k).Else-size-eq0 in
-    spot-found w f (sym (judged k) ∙ ap verdict_of c.in-Accepted.is) (omega arith) (omega (arith, t.bytes))
+    spot_found w f (sym (judged k) ∙ ap verdict_of c.in-Accepted.is) (omega arith) (omega (arith, t.bytes))
 
 pub overflow_add-start : goal.overflow_add-start
 overflow_add-start c = omega (arith, (stands c).bytes, (stands c).within)

@@ -16,9 +16,7 @@ goes_on c = sym c.closes.ensures ∙ c.if-closes.false
 
 -- a record of kind 5 does, of the length that it says
 stands : (c : In-Body)
-    → (let a = c.args in
-    let f = c.start-1.given.0 in
-    Present a.book.now a.at 5 (num_at 2 a.book.now a.at) f.0 f.1.0)
+    → (let a = c.args in Present a.book.now a.at 5 (num_at 2 a.book.now a.at) c.in-Body.start c.in-Body.next)
 stands c =
     let e = (goal.at.In-Body c).After-read in
     present _ _ _ _ (rw (e.new.ensures, e.read_u16-length.ensures) at e.read.ensures) c.in-Body.is

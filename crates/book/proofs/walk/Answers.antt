@@ -10,13 +10,11 @@ use Rattle.book.specs.Steps.{past}
 use Rattle.book.proofs.Standing.{holding, Told, told_close, told_wrong, told_room}
 use Rattle.book.proofs.Walks.{Going, going_starts, going_wrong, going_closed, going_on}
 use Rattle.book.proofs.walk.Goals as goal
-use Rattle.book.proofs.walk.Goals.{At-loop-here, In-Room}
+use Rattle.book.proofs.walk.Goals.{In-Room}
 
 -- the record at which the walk stands is a room's
 here : (c : In-Room)
-    → (let l = (goal.at.In-Room c).At-loop-here in
-    let f = c.here-1.given.0 in
-    Told l.args.book.now l.loop-here.slot.bytes f.0 f.1.0)
+    → Told c.args.book.now c.loop-here.slot.bytes c.in-Room.here c.in-Room.next
 here c = told_room _ _ c.step_at.ensures c.in-Room.is
 
 pub loop-here-init : goal.loop-here-init

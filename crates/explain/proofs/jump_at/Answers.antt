@@ -117,7 +117,7 @@ returns c left right =
           ∙ size.ensures
           ∙ ap (λ z. pos (nat_abs z))
           (jump_is (goal.at.returns c).After-jump ∙ c.jump.ensures ∙ jump_same (handed g) a.order
-          ∙ sym (jump_there a.kind a.order left right a.xs.now a.ys.now a.ms.now a.cs.now a.i k.0 k.1))) j;
+          ∙ sym (jump_there a.kind a.order left right a.xs.now a.ys.now a.ms.now a.cs.now a.i k.checked k.i_in_bounds))) j;
       allowance =
           (to_z-of_z {w = w64} {z = c.allowance.result} (record { sfits = c.allowance.type_inv })
           ∙ c.allowance.ensures

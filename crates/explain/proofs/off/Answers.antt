@@ -18,7 +18,7 @@ parts_at-requires c =
 pub returns : goal.returns
 unfolding decoded
 returns c =
-    let a = c.args in record { value = λ K. c.parts_at.ensures.0 K a.card.left a.card.right; fits = c.parts_at.ensures.1 }
+    let a = c.args in record { value = λ K. c.parts_at.ensures.value K a.card.left a.card.right; fits = c.parts_at.ensures.fits }
 
 pub slice_bounds-parts_at-end : goal.slice_bounds-parts_at-end
 slice_bounds-parts_at-end c = sym (length-take-le _ _ c.requires.full.minutes)

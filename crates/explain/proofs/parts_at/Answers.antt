@@ -36,13 +36,14 @@ returns-in-Refused c =
 pub returns-in-Accepted : goal.returns-in-Accepted
 unfolding parted parts_from knot
 returns-in-Accepted c =
-    let told = (let d = start (goal.at.returns-in-Accepted c).In-Accepted in
-    let a = d.args in (
-      λ K left right.
+    let a = c.args in
+    record {
+      value =
+          λ K left right.
           let card = lent a.xs.now a.ys.now a.ms.now a.cs.now left right in
-          c.parted.ensures.0 ∙ ap (λ i. parted card i a.minute) (left_is (goal.at.returns-in-Accepted c).After-find-gap).0 ∙ inside_explained K card a.minute (inside (goal.at.returns-in-Accepted c).In-Accepted),
-      c.parted.ensures.1,
-    )) in record { value = told.0; fits = told.1 }
+          c.parted.ensures.value ∙ ap (λ i. parted card i a.minute) (left_is (goal.at.returns-in-Accepted c).After-find-gap).0 ∙ inside_explained K card a.minute (inside (goal.at.returns-in-Accepted c).In-Accepted);
+      fits = c.parted.ensures.fits;
+    }
 
 pub parted-requires : goal.parted-requires
 parted-requires c =

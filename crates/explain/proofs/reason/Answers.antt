@@ -23,7 +23,7 @@ use Rattle.lists.specs.Lists.{code_of}
 use Rattle.explain.specs.declared.Jump.{Jump}
 use Rattle.explain.proofs.Named.{third_is_named, fourth_is_named, third_not_asked, third_within}
 use Rattle.explain.proofs.reason.Goals as goal
-use Rattle.explain.proofs.reason.Goals.{After-asks, After-struct_told-1, Joined-asks, Start, Then-asks}
+use Rattle.explain.proofs.reason.Goals.{then-asks+else-third, else-asks, After-asks, After-struct_told-1, Joined-asks, Start, Then-asks}
 
 small : (c : Start) → Fits w32 c.args.i
 small c = record { fits = omega (arith, c.requires.i_in_bounds, c.requires.checked.long.few) }
@@ -61,14 +61,14 @@ returns c =
     let card = lent a.xs.now a.ys.now a.ms.now a.cs.now a.left a.right in
     let here = asks_is (goal.at.Joined-asks j).After-asks in
     let no : jumps (kind_of a.kind) (joint card a.i) third ≡ false =
-    ⊎_elim
-    (λ w. third_within a.kind a.left a.right a.xs.now a.ys.now a.ms.now a.cs.now a.i
-    (sym here ∙ w.0.true)
-    (w.1.ensures a.left a.right)
-    (lt_z_false {a = w.1.result.allowance} {b = w.1.result.size}
-    (told w64 (compared w.1.result) both (λ a b. lt_z a b ≡ false) (record { sfits = w.3.given.1.0.1 }, (record { sfits = w.3.given.0.1 }, tt)) w.4.false)))
-    (λ w. third_not_asked a.kind a.left a.right a.xs.now a.ys.now a.ms.now a.cs.now a.i (sym here ∙ w.false))
-    j.if-asks.branch in
+    elim j.if-asks.branch [
+      | then-asks+else-third w ↦ third_within a.kind a.left a.right a.xs.now a.ys.now a.ms.now a.cs.now a.i
+          (sym here ∙ w.if-asks.true)
+          (w.jump_at-third.ensures a.left a.right)
+          (lt_z_false {a = w.jump_at-third.result.allowance} {b = w.jump_at-third.result.size}
+          (told w64 (compared w.jump_at-third.result) both (λ a b. lt_z a b ≡ false) (record { sfits = w.struct_told-1.given.1.0.1 }, (record { sfits = w.struct_told-1.given.0.1 }, tt)) w.if-third.false))
+      | else-asks w ↦ third_not_asked a.kind a.left a.right a.xs.now a.ys.now a.ms.now a.cs.now a.i (sym here ∙ w.if-asks.false)
+    ] in
     fourth_is_named a.kind a.left a.right a.xs.now a.ys.now a.ms.now a.cs.now a.i no (c.jump_at-fourth.ensures a.left a.right) c.because-2.ensures
 
 pub overflow_cast-i : goal.overflow_cast-i

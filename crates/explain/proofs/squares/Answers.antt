@@ -16,7 +16,7 @@ of_order : (k : Kind) {o o' : Order} {z : ℤ} → o ≡ o' → z ≡ pos (squar
 of_order k e f l = rw e (f, l)
 
 pub returns-in-Third : goal.returns-in-Third
-returns-in-Third c = of_order _ c.in-Third.is (to_z_pos w64 (omega arith)) (omega arith)
+returns-in-Third c = of_order (c.args.kind) c.in-Third.is (to_z_pos w64 (omega arith)) (omega arith)
 
 pub returns-in-Fourth : goal.returns-in-Fourth
-returns-in-Fourth c = of_order _ c.in-Fourth.is (λ i. pos 20) (omega arith)
+returns-in-Fourth c = of_order (c.args.kind) c.in-Fourth.is (λ i. pos 20) (omega arith)

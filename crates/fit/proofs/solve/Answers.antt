@@ -5,7 +5,7 @@ use Rattle.elimination.specs.Refusal.{both_finite}
 use Rattle.knots.proofs.Accepted.{stood}
 use Rattle.passes.specs.declared.Solved.{Solved}
 use Rattle.passes.specs.Back.{no_pair}
-use Rattle.passes.proofs.Answers.{pairs-finite}
+use Rattle.passes.proofs.Answers.{pairs_finite}
 use Rattle.fit.proofs.Fitting.{fits_along, fits_refused}
 use Rattle.fit.proofs.Worked.{refused_8, worked_out}
 use borrow.Author.Rules.{rules}
@@ -18,7 +18,7 @@ pairs_of-solved-requires c =
 pub scale-numbers-requires : goal.scale-numbers-requires
 scale-numbers-requires c =
     let s = c.before.before.before.before.before.before in
-    let p = c.pairs_of-solved in record { n_le_most = s.requires.alike.many; all_finite = λ k h. ap (λ (q : Solved). both_finite (get_or q.pairs k no_pair)) p.ensures ∙ pairs-finite _ _ _ k h }
+    let p = c.pairs_of-solved in record { n_le_most = s.requires.alike.many; all_finite = λ k h. ap (λ (q : Solved). both_finite (get_or q.pairs k no_pair)) p.ensures ∙ pairs_finite _ _ _ k h }
 
 pub returns-then-solved-eq0 : goal.returns-then-solved-eq0
 returns-then-solved-eq0 c =

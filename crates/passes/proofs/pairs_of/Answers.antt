@@ -17,14 +17,14 @@ use Rattle.passes.specs.Back.{back, pair_of, back_to, pair_at, no_pair}
 use Rattle.front.specs.Front.{listed}
 use Rattle.passes.specs.Passes.{returned, back_from, passes}
 use Rattle.front.proofs.Listed.{is_listed, grown_down}
-use Rattle.passes.proofs.Answers.{forward-then-back, stuck-forward}
+use Rattle.passes.proofs.Answers.{forward_then_back, stuck_forward}
 use Rattle.passes.proofs.Backs.{goes_on, stays_stopped, pair_here, zeros_behind}
 use Rattle.passes.proofs.pairs_of.Invariants.{at}
 use Rattle.passes.proofs.pairs_of.Goals as goal
 use Rattle.passes.proofs.pairs_of.Goals.{Else-f-ne0}
 
 pub returns-then-f-ne0 : goal.returns-then-f-ne0
-returns-then-f-ne0 c = c.refuse.ensures ∙ stuck-forward _ _ _ _ c.forward_pass-f.ensures c.if-f-ne0.true
+returns-then-f-ne0 c = c.refuse.ensures ∙ stuck_forward _ _ _ _ c.forward_pass-f.ensures c.if-f-ne0.true
 
 pub loop-j-init : goal.loop-j-init
 unfolding back_to
@@ -39,7 +39,7 @@ whole : (c : Else-f-ne0)
     → (let s = c.args in
     back_from (turn_by s.job) (at c.forward_pass-f.result) (length s.minutes.now)
     ≡ passes (step_by s.minutes.now s.ordinates.now s.slopes.now s.job) (turn_by s.job) (length s.minutes.now))
-whole c = forward-then-back _ _ _ _ c.forward_pass-f.ensures (omega (arith, c.if-f-ne0.false))
+whole c = forward_then_back _ _ _ _ c.forward_pass-f.ensures (omega (arith, c.if-f-ne0.false))
 
 pub returns-else-finite_pair : goal.returns-else-finite_pair
 unfolding back_from

@@ -17,7 +17,7 @@ use Rattle.passes.specs.Back.{back, pair_of, back_to, pair_at, no_pair}
 use Rattle.front.specs.Front.{listed}
 use Rattle.passes.specs.Passes.{returned, back_from, passes}
 use Rattle.front.proofs.Listed.{is_listed, grown_down}
-use Rattle.passes.proofs.Answers.{forward-then-back, stuck-forward}
+use Rattle.passes.proofs.Answers.{forward_then_back, stuck_forward}
 use Rattle.passes.proofs.Backs.{goes_on, stays_stopped, pair_here, zeros_behind}
 use Rattle.passes.proofs.pairs_of.Given as goal
 

@@ -7,10 +7,7 @@ use Rattle.refit.proofs.anew.Goals as goal
 use Rattle.refit.proofs.anew.Goals.{After-fresh-arg-1}
 
 pub returns-then-fitted-eq0 : goal.returns-then-fitted-eq0
-returns-then-fitted-eq0 c =
-    let f = (goal.at.returns-then-fitted-eq0 c).After-fresh-arg-1 in
-    let s = f.before.before.before in
-    renews_given f.fresh.ensures c.if1.true (sym (knots_decoded s.args.card s.requires.full.0)) c.changed.ensures
+returns-then-fitted-eq0 c = renews_given c.fresh-fitted.ensures c.if-fitted-eq0.true (sym (knots_decoded c.args.card c.requires.full.0)) c.changed.ensures
 
 pub returns : goal.returns
 returns c = renews_refused c.fresh-fitted.ensures c.if-fitted-eq0.false

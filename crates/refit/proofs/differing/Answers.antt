@@ -12,7 +12,7 @@ use mir.ValLaws.{to_z-of_z}
 use borrow.Author.Rules.{rules}
 use Rattle.refit.proofs.Places.{Counted, counted_none, counted_same, counted_apart, counted_all}
 use Rattle.refit.proofs.differing.Goals as goal
-use Rattle.refit.proofs.differing.Goals.{Start}
+use Rattle.refit.proofs.differing.Goals.{then-held-i, else-held-i, Start}
 
 pub loop-i-init : goal.loop-i-init
 loop-i-init c = counted_none _
@@ -26,10 +26,10 @@ loop-i-preserved c =
     let more = c.loop-i-test.true in
     let told : (z : ℤ) → mag z < 2147483648 → to_z w32 (of_z w32 z) ≡ z = λ z h. to_z-of_z w32 z (record { sfits = h }) in
     let one_number : of_z w32 a ≡ of_z w32 b → a ≡ b = λ e. sym (told a c.t8-1.given) ∙ ap (to_z w32) e ∙ told b c.t11-1.given in
-    ⊎_elim
-    (λ w. rw w.1 (counted_apart _ l.invariant (pos 0) more s.requires.1 (λ e. w.0.true (ap (of_z w32) e))))
-    (λ w. rw w.1 (counted_same _ l.invariant (pos 0) more s.requires.1 (one_number w.0.false)))
-    c.if-held-i.branch
+    elim c.if-held-i.branch [
+      | then-held-i w ↦ rw w.count-is (counted_apart _ l.invariant (pos 0) more s.requires.1 (λ e. w.if-held-i.true (ap (of_z w32) e)))
+      | else-held-i w ↦ rw w.count-is (counted_same _ l.invariant (pos 0) more s.requires.1 (one_number w.if-held-i.false))
+    ]
 
 pub returns : goal.returns
 returns c = (counted_all _ c.loop-i.invariant c.loop-i-test.false c.requires.1, omega (arith, c.loop-i.invariant))

@@ -23,7 +23,7 @@ use Rattle.swing.proofs.gap_on.Goals.{After-loop-t, In-loop-t, Start}
 
 pub curve_at-curve-requires : goal.curve_at-curve-requires
 curve_at-curve-requires c =
-    let told = c.requires in record { checked = told.0; i_in_bounds = told.1 }
+    let told = c.requires in record { checked = told.checked; i_in_bounds = told.j_in_bounds }
 
 pub overflow_sub-h : goal.overflow_sub-h
 overflow_sub-h c = let d = (goal.at.overflow_sub-h c).Start in omega (arith, wide d.requires.checked d.args.j d.requires.j_in_bounds)

@@ -30,14 +30,14 @@ abbrev start : In-loop-i → Start
 start c = (goal.at.In-loop-i c).Start
 
 pub find-gap-requires : goal.find-gap-requires
-find-gap-requires c = (omega (arith, c.requires.in_bounds.0.0), c.requires.checked.long.few)
+find-gap-requires c = (omega (arith, c.requires.in_bounds.0), c.requires.checked.long.few)
 
 -- the gap that the looks leave is the first minute's
 first_gap : (c : After-find-gap) → (let a = c.args in IsGap a.xs.now a.from c.find-gap.result.first)
 first_gap c =
     let d = (goal.at.After-find-gap c).Start in
     let xs = d.args.xs.now in
-    let p = d.requires.in_bounds.0 in
+    let p = d.requires.in_bounds in
     subst (λ j. IsGap xs d.args.from j) (sym (ap (λ (l : Left). l.first) c.find-gap.ensures ∙ found_gap xs d.args.from p.0 (minutes_rise d.requires.checked) p.1))
     (gap_is xs d.args.from p.1 p.0)
 
@@ -89,10 +89,10 @@ module _ (c : In-loop-i-2) where
   here = still stops (gap_here outer) c.loop-i-2.invariant.0 (omega arith)
 
   first : get_or xs 0 0 ≤ minute
-  first = omega (arith, d.requires.in_bounds.0.1)
+  first = omega (arith, d.requires.in_bounds.1)
 
   last : minute ≤ get_or xs (length xs - 1) 0
-  last = omega (arith, d.requires.in_bounds.0.2, stops.within)
+  last = omega (arith, d.requires.in_bounds.2, stops.within)
 
   small : get_or xs (length xs - 1) 0 < 2 ^ 16
   small = (outer.shared_slice_known-1.given _).fits
@@ -108,17 +108,17 @@ module _ (c : In-loop-i-2) where
   room_values : c.loop-i-2.i < length c.loop-i-2.values
   room_values =
       let e : length c.loop-i-2.values ≡ length outer.loop-i.values = c.loop-i-2.invariant.2.same in
-      omega (arith, d.requires.in_bounds.1.0, stops.within, outer.loop-i.inv.2.same, e)
+      omega (arith, d.requires.count_in_bounds.0, stops.within, outer.loop-i.invariant.2.same, e)
 
   room_slopes : c.loop-i-2.i < length c.loop-i-2.slopes
   room_slopes =
       let e : length c.loop-i-2.slopes ≡ length outer.loop-i.slopes = c.loop-i-2.invariant.3.same in
-      omega (arith, d.requires.in_bounds.1.1, stops.within, outer.loop-i.inv.3.same, e)
+      omega (arith, d.requires.count_in_bounds.1, stops.within, outer.loop-i.invariant.3.same, e)
 
   room_curvatures : c.loop-i-2.i < length c.loop-i-2.curvatures
   room_curvatures =
       let e : length c.loop-i-2.curvatures ≡ length outer.loop-i.curvatures = c.loop-i-2.invariant.4.same in
-      omega (arith, d.requires.in_bounds.1.2, stops.within, outer.loop-i.inv.4.same, e)
+      omega (arith, d.requires.count_in_bounds.2, stops.within, outer.loop-i.invariant.4.same, e)
 
 -- the curve that was laid is the gap's
 outer_curve : (c : In-loop-i-2) → (let a = (d c).args in c.curve_at-curve.result ≡ curve_of a.xs.now a.ys.now a.ms.now a.cs.now (j c))
@@ -146,7 +146,7 @@ at-r-requires c =
 abbrev inner : After-struct_told-in-loop-i-2-2-1 → In-loop-i-2
 inner c = (goal.at.After-struct_told-in-loop-i-2-2-1 c).In-loop-i-2
 
-low : (c : After-struct_told-in-loop-i-2-2-1) → (inner c).before.loop2.i < 2 ^ 16
+low : (c : After-struct_told-in-loop-i-2-2-1) → (inner c).loop-i-2.i < 2 ^ 16
 low c = omega (arith, small (inner c), last (inner c))
 
 abbrev passed : After-loop-i-2 → In-loop-i
@@ -155,7 +155,7 @@ passed c = (goal.at.After-loop-i-2 c).In-loop-i
 pub loop-i-2-preserved : goal.loop-i-2-preserved
 loop-i-2-preserved c =
     let l = inner c in
-    let v = l.before.loop2.inv in
+    let v = l.loop-i-2.invariant in
     let r = c.at-r.result in
     let k = (d l).requires.checked in
     let e = alike k (j l) (here l) (first l) (last l) (curve_reads k (j l) (outer_curve l) (place l) (t_is l) c.at-r.ensures) in (
@@ -170,11 +170,11 @@ pub loop-i-preserved : goal.loop-i-preserved
 loop-i-preserved c =
     let s = (goal.at.loop-i-preserved c).After-stop-stop in
     let o = passed c in
-    let v = o.before.loop.inv in
+    let v = o.loop-i.invariant in
     let w = c.loop-i-2.invariant in
     let e : c.loop-i-2.i ≡ s.stop-stop.result = omega arith in (
       omega (arith, s.stop-stop.ensures.within),
-      (λ l. subst (λ i. IsGap (start o).args.xs.now ((start o).args.from + i) (o.before.loop.j + 1)) (sym e) (on_to (minutes_rise (start o).requires.checked) s.stop-stop.ensures (omega arith))),
+      (λ l. subst (λ i. IsGap (start o).args.xs.now ((start o).args.from + i) (o.loop-i.j + 1)) (sym e) (on_to (minutes_rise (start o).requires.checked) s.stop-stop.ensures (omega arith))),
       w.2.more _ v.2,
       w.3.more _ v.3,
       w.4.more _ v.4,

@@ -26,9 +26,9 @@ use Rattle.table.proofs.fill.Given as goal
 abbrev pub invariant-loop-i-2 : goal.invariant-loop-i-2
 invariant-loop-i-2 l = (l.initial.i ≤ l.i)
     × (l.i ≤ l.stop)
-    × FilledOn (λ l.i. (answer_at accepted (lent l.xs l.ys l.ms l.cs 0 0) (l.from + l.i)).value) l.initial.i l.i l.initial.values l.values
-    × FilledOn (λ l.i. (answer_at accepted (lent l.xs l.ys l.ms l.cs 0 0) (l.from + l.i)).slope) l.initial.i l.i l.initial.slopes l.slopes
-    × FilledOn (λ l.i. (answer_at accepted (lent l.xs l.ys l.ms l.cs 0 0) (l.from + l.i)).curvature) l.initial.i l.i l.initial.curvatures l.curvatures
+    × FilledOn (λ i. (answer_at accepted (lent l.xs l.ys l.ms l.cs 0 0) (l.from + i)).value) l.initial.i l.i l.initial.values l.values
+    × FilledOn (λ i. (answer_at accepted (lent l.xs l.ys l.ms l.cs 0 0) (l.from + i)).slope) l.initial.i l.i l.initial.slopes l.slopes
+    × FilledOn (λ i. (answer_at accepted (lent l.xs l.ys l.ms l.cs 0 0) (l.from + i)).curvature) l.initial.i l.i l.initial.curvatures l.curvatures
 
 abbrev pub decreases-loop-i-2 : goal.decreases-loop-i-2
 decreases-loop-i-2 l = l.stop - l.i
@@ -36,9 +36,9 @@ decreases-loop-i-2 l = l.stop - l.i
 abbrev pub invariant-loop-i : goal.invariant-loop-i
 invariant-loop-i l = (l.i ≤ l.count)
     × (l.i < l.count → IsGap l.xs (l.from + l.i) l.j)
-    × Filled (λ l.i. (answer_at accepted (lent l.xs l.ys l.ms l.cs 0 0) (l.from + l.i)).value) l.i l.initial.values l.values
-    × Filled (λ l.i. (answer_at accepted (lent l.xs l.ys l.ms l.cs 0 0) (l.from + l.i)).slope) l.i l.initial.slopes l.slopes
-    × Filled (λ l.i. (answer_at accepted (lent l.xs l.ys l.ms l.cs 0 0) (l.from + l.i)).curvature) l.i l.initial.curvatures l.curvatures
+    × Filled (λ i. (answer_at accepted (lent l.xs l.ys l.ms l.cs 0 0) (l.from + i)).value) l.i l.initial.values l.values
+    × Filled (λ i. (answer_at accepted (lent l.xs l.ys l.ms l.cs 0 0) (l.from + i)).slope) l.i l.initial.slopes l.slopes
+    × Filled (λ i. (answer_at accepted (lent l.xs l.ys l.ms l.cs 0 0) (l.from + i)).curvature) l.i l.initial.curvatures l.curvatures
 
 abbrev pub decreases-loop-i : goal.decreases-loop-i
 decreases-loop-i l = length l.xs - l.j

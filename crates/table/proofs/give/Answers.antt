@@ -26,7 +26,7 @@ few c = c.requires.readable.some
 pub count-count-requires : goal.count-count-requires
 unfolding decoded knots
 count-count-requires c =
-    let s = (goal.at.count-count-requires c).Start in record { xs_nonzero = omega (arith, few s); from_bound = (in_card _ _ s.requires.from_value.0).1 }
+    let s = (goal.at.count-count-requires c).Start in record { xs_nonzero = omega (arith, few s); from_bound = (in_card _ _ s.requires.from_value).1 }
 
 pub slice_bounds-fill-end : goal.slice_bounds-fill-end
 slice_bounds-fill-end c = sym (length-take-le _ _ c.requires.readable.full.minutes)
@@ -45,7 +45,7 @@ unfolding decoded knots count minutes_left
 fill-requires c =
     let s = (goal.at.fill-requires c).Start in
     let n = c.count-count.ensures in
-    let inside = in_card _ _ s.requires.from_value.0 in record { checked = s.requires.readable.checked; in_bounds = ((omega (arith, few s), inside.0, omega (arith, n.0, inside.1)), (omega (arith, n.0), omega (arith, n.0), omega (arith, n.0))); count_in_bounds =  }
+    let inside = in_card _ _ s.requires.from_value in record { checked = s.requires.readable.checked; in_bounds = (omega (arith, few s), inside.0, omega (arith, n.0, inside.1)); count_in_bounds = (omega (arith, n.0), omega (arith, n.0), omega (arith, n.0)) }
 
 pub returns : goal.returns
 unfolding decoded answer_at reading_order reads_at spell knot

@@ -46,4 +46,4 @@ returns-in-Accepted c =
     let e = (goal.at.returns-in-Accepted c).In-Accepted in
     let j = (goal.at.In-Accepted e).After-judged in
     let g = c.give-count.ensures in
-    tables_given (lent j) (bytes j) _ (step_accepts (verdict_is j) e.in-Accepted.is) (holds e) g.0.0 g.1
+    tables_given (lent j) (bytes j) _ (step_accepts (verdict_is j) e.in-Accepted.is) (holds e) g.value.0 g.given
