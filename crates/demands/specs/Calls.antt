@@ -48,7 +48,7 @@ use Rattle.kaihveto.proofs.kaihveto_refit.Reads as refit
 use Rattle.kaihveto.proofs.kaihveto_book_find.Reads as book_find
 use Rattle.kaihveto.proofs.kaihveto_book_put.Reads as book-put
 use Rattle.kaihveto.proofs.kaihveto_book_remove.Reads as book-remove
-use Rattle.kaihveto.proofs.MendReads as mend
+use Rattle.kaihveto.proofs.kaihveto_mend.Reads as mend
 
 -- a call that meets a promise: of lifetimes, arguments, the answer, and the parameters at exit
 pub record Call {K A X S : Type 0} (Post : K → A → X → S → Type 0) : Type 0 where

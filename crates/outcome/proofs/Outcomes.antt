@@ -231,7 +231,7 @@ use Rattle.kaihveto.proofs.kaihveto_refit.Reads as c-refit
 use Rattle.kaihveto.proofs.kaihveto_book_find.Reads as c-book-find
 use Rattle.kaihveto.proofs.kaihveto_book_put.Reads as c-book-put
 use Rattle.kaihveto.proofs.kaihveto_book_remove.Reads as c-book-remove
-use Rattle.kaihveto.proofs.MendReads as c-mend
+use Rattle.kaihveto.proofs.kaihveto_mend.Reads as c-mend
 use Rattle.outcome.specs.Once.{Leaves, Once, Lent}
 
 -- ---- the laws: a promise is an equation of what is left to the caller, or one of what an answer means, or several equations

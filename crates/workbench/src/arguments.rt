@@ -59,17 +59,17 @@ pub(crate) fn nearly(word: &[u8]) -> bool {
 }
 
 // Argument i as a number; where it is none, that is told.
-pub(crate) fn number(i: usize) -> Asked {
+pub(crate) fn number(rt: HostRuntime, i: usize) -> Asked {
     let mut word = io::buffer();
-    let n = os::arg(i, &mut word);
+    let n = crate::host::arg(rt, i, &mut word);
     read(&word[..n])
 }
 
 // Whether all arguments from i on are numbers; the first that is none is told.
-pub(crate) fn all_numbers(from: usize, count: usize) -> bool {
+pub(crate) fn all_numbers(rt: HostRuntime, from: usize, count: usize) -> bool {
     let mut i = from;
     while i < count {
-        if let Asked::Nothing = number(i) {
+        if let Asked::Nothing = number(rt, i) {
             return false;
         }
         i += 1;

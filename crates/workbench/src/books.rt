@@ -14,16 +14,16 @@ use text::Sheet;
 const ABSENT: u32 = 20;
 
 // A closing record alone.
-fn new() -> u8 {
+fn new(rt: HostRuntime) -> u8 {
     let mut file = io::buffer();
-    let n = os::arg(3, &mut file);
-    crate::files::make(&file[..n], &[0, 0, 3, 0])
+    let n = crate::host::arg(rt, 3, &mut file);
+    crate::files::make(rt, &file[..n], &[0, 0, 3, 0])
 }
 
 // ---- a line for each room
 
 // `3 18 0 1020`: the room, its knots, its first and its last minute.
-fn print_room(room: u16, card: Card) -> u8 {
+fn print_room(rt: HostRuntime, room: u16, card: Card) -> u8 {
     let knots = Line::new()
         .count(room as u64)
         .words(b" ")
@@ -33,16 +33,16 @@ fn print_room(room: u16, card: Card) -> u8 {
         .count(crate::checks::first_minute(card) as u64)
         .words(b" ")
         .count(crate::checks::last_minute(card) as u64);
-    line.words(b"\n").print(b"")
+    line.words(b"\n").print(rt, b"")
 }
 
-fn list_card(file: &[u8], room: u16, bytes: &[u8]) -> u8 {
+fn list_card(rt: HostRuntime, file: &[u8], room: u16, bytes: &[u8]) -> u8 {
     let opened = Opened::by_head(bytes);
     let verdict = opened.verdict;
     let card = opened.card;
     match verdict {
         Judged::Refused(number, place) => crate::tell::refused_in(file, room, number, place),
-        Judged::Accepted => print_room(room, card),
+        Judged::Accepted => print_room(rt, room, card),
     }
 }
 
@@ -53,11 +53,11 @@ struct Listed {
 }
 
 // Each room of a book that is sound, also behind one whose card is refused.
-fn list_rooms(file: &[u8], bytes: &[u8]) -> Listed {
+fn list_rooms(rt: HostRuntime, file: &[u8], bytes: &[u8]) -> Listed {
     let mut status = crate::tell::DONE;
     let mut rooms: usize = 0;
     let mut at: usize = 0;
-    while at < bytes.len() {
+    while at < bytes.len() && status != crate::tell::GONE {
         let Step::Room { room, next } = book::step_at(bytes, at) else {
             return Listed { status, rooms };
         };
@@ -69,7 +69,7 @@ fn list_rooms(file: &[u8], bytes: &[u8]) -> Listed {
             return Listed { status, rooms };
         }
         let card = crate::rooms::part(bytes, at + 6, next);
-        status = crate::tell::graver(status, list_card(file, room, card));
+        status = crate::tell::graver(status, list_card(rt, file, room, card));
         rooms += 1;
         at = next;
     }
@@ -84,17 +84,17 @@ fn in_use(line: Line, bytes: u32) -> Line {
         .words(b" bytes in use")
 }
 
-fn list(file: &[u8], bytes: &[u8]) -> u8 {
+fn list(rt: HostRuntime, file: &[u8], bytes: &[u8]) -> u8 {
     let used = book::check(bytes);
     if used.number != 0 {
         return crate::tell::refused(file, used.number, used.place);
     }
-    let listed = list_rooms(file, bytes);
+    let listed = list_rooms(rt, file, bytes);
     let line = Line::new()
         .words(b"ok ")
         .count(listed.rooms as u64)
         .words(b", ");
-    let said = in_use(line, used.bytes).words(b"\n").print(b"");
+    let said = in_use(line, used.bytes).words(b"\n").print(rt, b"");
     crate::tell::graver(listed.status, said)
 }
 
@@ -127,39 +127,46 @@ fn held(bytes: &[u8], slot: Slot) -> &[u8] {
 }
 
 // A card is explained whether it is accepted or not; the book's refusals and 20 are told as above.
-pub(crate) fn explain(name: &[u8], file: &[u8], bytes: &[u8], room: u16, minute: u16) -> u8 {
+pub(crate) fn explain(
+    rt: HostRuntime,
+    name: &[u8],
+    file: &[u8],
+    bytes: &[u8],
+    room: u16,
+    minute: u16,
+) -> u8 {
     match book::walk(bytes, room) {
         Walked::Refused(number, place) => crate::tell::refused(file, number, place),
         Walked::Sound(slot) => {
             if slot.size == 0 {
                 return crate::tell::refused_in(file, room, ABSENT, 0);
             }
-            crate::explained::print(name, held(bytes, slot), minute)
+            crate::explained::print(rt, name, held(bytes, slot), minute)
         }
     }
 }
 
 // A card that goes to standard output goes alone.
-fn save_card(file: &[u8], room: u16, card: &[u8]) -> u8 {
+fn save_card(rt: HostRuntime, file: &[u8], room: u16, card: &[u8]) -> u8 {
     let mut to = io::buffer();
-    let n = os::arg(5, &mut to);
-    let saved = crate::files::save(&to[..n], card);
+    let n = crate::host::arg(rt, 5, &mut to);
+    let saved = crate::files::save(rt, &to[..n], card);
     if saved != crate::tell::DONE || crate::files::is_dash(&to[..n]) {
         return saved;
     }
-    list_card(file, room, card)
+    list_card(rt, file, room, card)
 }
 
-fn find(file: &[u8], bytes: &[u8], room: u16, count: usize) -> u8 {
+fn find(rt: HostRuntime, file: &[u8], bytes: &[u8], room: u16, count: usize) -> u8 {
     let looked = look(file, bytes, room);
     if looked != crate::tell::DONE {
         return looked;
     }
     let card = book::lookup(bytes, room);
     if count < 6 {
-        return list_card(file, room, card);
+        return list_card(rt, file, room, card);
     }
-    save_card(file, room, card)
+    save_card(rt, file, room, card)
 }
 
 // ---- a book by itself
@@ -172,27 +179,25 @@ enum Job {
     Remove(u16),
 }
 
-fn with(job: Job) -> u8 {
+fn with(rt: HostRuntime, job: Job) -> u8 {
     let mut file = io::buffer();
-    let n = os::arg(3, &mut file);
+    let n = crate::host::arg(rt, 3, &mut file);
     let mut bytes = io::large_buffer();
-    let got = crate::files::load(&file[..n], &mut bytes);
-    if got < 0 {
+    let Ok(k) = crate::files::load(rt, &file[..n], &mut bytes) else {
         return crate::tell::FAILED;
-    }
-    let k = io::count(got, &bytes);
+    };
     match job {
-        Job::List => list(&file[..n], &bytes[..k]),
-        Job::Find(room, count) => find(&file[..n], &bytes[..k], room, count),
-        Job::Remove(room) => remove(&file[..n], &mut bytes, k, room),
+        Job::List => list(rt, &file[..n], &bytes[..k]),
+        Job::Find(room, count) => find(rt, &file[..n], &bytes[..k], room, count),
+        Job::Remove(room) => remove(rt, &file[..n], &mut bytes, k, room),
     }
 }
 
 // ---- a book that is changed
 
 // The file is made anew with the bytes in use.
-fn save(file: &[u8], book: &[u8], bytes: u32) -> u8 {
-    crate::files::save(file, crate::tell::front(book, bytes as usize))
+fn save(rt: HostRuntime, file: &[u8], book: &[u8], bytes: u32) -> u8 {
+    crate::files::save(rt, file, crate::tell::front(book, bytes as usize))
 }
 
 // What was done with a room.
@@ -203,18 +208,19 @@ fn done_with(room: u16, what: &[u8]) -> Line {
 // ---- a card put in
 
 // `rooms.book: room 3: put in, 18 knots, minute 0 to 1020, 312 of 16384 bytes in use`.
-fn tell_put(file: &[u8], room: u16, replaced: bool, card: Card, bytes: u32) -> u8 {
+fn tell_put(rt: HostRuntime, file: &[u8], room: u16, replaced: bool, card: Card, bytes: u32) -> u8 {
     let done = if replaced {
         done_with(room, b": replaced, ")
     } else {
         done_with(room, b": put in, ")
     };
     let line = crate::checks::reach(done, card).words(b", ");
-    in_use(line, bytes).words(b"\n").print(file)
+    in_use(line, bytes).words(b"\n").print(rt, file)
 }
 
 // The buffer has room for every book, so that 21 is only ever said of the limit.
 fn put_sound(
+    rt: HostRuntime,
     file: &[u8],
     book: &mut [u8],
     replaced: bool,
@@ -226,14 +232,15 @@ fn put_sound(
     if used.number != 0 {
         return crate::tell::refused(file, used.number, used.place);
     }
-    let saved = save(file, book, used.bytes);
+    let saved = save(rt, file, book, used.bytes);
     if saved != crate::tell::DONE {
         return saved;
     }
-    tell_put(file, room, replaced, card, used.bytes)
+    tell_put(rt, file, room, replaced, card, used.bytes)
 }
 
 fn put_judged(
+    rt: HostRuntime,
     file: &[u8],
     book: &mut [u8],
     replaced: bool,
@@ -248,97 +255,95 @@ fn put_judged(
     match verdict {
         Judged::Refused(number, place) => crate::tell::refused(name, number, place),
         Judged::Accepted => {
-            let allowed = crate::swings::allow(name, [0; Sheet::MOST], bytes, care);
+            let allowed = crate::swings::allow(rt, name, [0; Sheet::MOST], bytes, care);
             if allowed != crate::tell::DONE {
                 return allowed;
             }
-            put_sound(file, book, replaced, room, bytes, card)
+            put_sound(rt, file, book, replaced, room, bytes, card)
         }
     }
 }
 
 // A card by its name and its bytes. The book is judged by its file's own bytes: the zeros behind them in the
 // buffer could end a record that is cut short.
-pub(crate) fn put(name: &[u8], card: &[u8], room: u16, care: Care) -> u8 {
+pub(crate) fn put(rt: HostRuntime, name: &[u8], card: &[u8], room: u16, care: Care) -> u8 {
     let mut file = io::buffer();
-    let n = os::arg(3, &mut file);
+    let n = crate::host::arg(rt, 3, &mut file);
     let mut bytes = io::large_buffer();
-    let got = crate::files::load(&file[..n], &mut bytes);
-    if got < 0 {
+    let Ok(k) = crate::files::load(rt, &file[..n], &mut bytes) else {
         return crate::tell::FAILED;
-    }
-    let k = io::count(got, &bytes);
+    };
     let used = book::check(&bytes[..k]);
     if used.number != 0 {
         return crate::tell::refused(&file[..n], used.number, used.place);
     }
     let replaced = book::find(&bytes[..k], room).number != ABSENT;
-    put_judged(&file[..n], &mut bytes, replaced, room, name, card, care)
+    put_judged(rt, &file[..n], &mut bytes, replaced, room, name, card, care)
 }
 
 // ---- a room taken out
 
 // `rooms.book: room 9: taken out, 312 of 16384 bytes in use, 16072 free`.
-fn tell_taken(file: &[u8], room: u16, bytes: u32) -> u8 {
+fn tell_taken(rt: HostRuntime, file: &[u8], room: u16, bytes: u32) -> u8 {
     let line = in_use(done_with(room, b": taken out, "), bytes).words(b", ");
     let n = bytes as usize;
     let free = if n < Used::MOST { Used::MOST - n } else { 0 };
-    line.count(free as u64).words(b" free\n").print(file)
+    line.count(free as u64).words(b" free\n").print(rt, file)
 }
 
 // No card is tested, so that a damaged one can go too.
-fn remove_sound(file: &[u8], book: &mut [u8], room: u16) -> u8 {
+fn remove_sound(rt: HostRuntime, file: &[u8], book: &mut [u8], room: u16) -> u8 {
     let used = book_remove::remove(book, room);
     if used.number != 0 {
         return crate::tell::refused_in(file, room, used.number, used.place);
     }
-    let saved = save(file, book, used.bytes);
+    let saved = save(rt, file, book, used.bytes);
     if saved != crate::tell::DONE {
         return saved;
     }
-    tell_taken(file, room, used.bytes)
+    tell_taken(rt, file, room, used.bytes)
 }
 
 // The book is judged by its file's own n bytes, as for a card put in; what is refused then is the room.
-fn remove(file: &[u8], book: &mut [u8], n: usize, room: u16) -> u8 {
+fn remove(rt: HostRuntime, file: &[u8], book: &mut [u8], n: usize, room: u16) -> u8 {
     let used = book::check(crate::tell::front(book, n));
     if used.number != 0 {
         return crate::tell::refused(file, used.number, used.place);
     }
-    remove_sound(file, book, room)
+    remove_sound(rt, file, book, room)
 }
 
 // ---- which of them is asked for
 
-fn with_room(word: &[u8], room: u16, count: usize) -> u8 {
+fn with_room(rt: HostRuntime, word: &[u8], room: u16, count: usize) -> u8 {
     if crate::arguments::same(word, b"find") {
-        return with(Job::Find(room, count));
+        return with(rt, Job::Find(room, count));
     }
     if crate::arguments::same(word, b"put") {
-        return crate::cards::put(room);
+        return crate::cards::put(rt, room);
     }
     if crate::arguments::same(word, b"remove") {
-        return with(Job::Remove(room));
+        return with(rt, Job::Remove(room));
     }
     crate::tell::FAILED
 }
 
-fn named(word: &[u8], count: usize) -> u8 {
+fn named(rt: HostRuntime, word: &[u8], count: usize) -> u8 {
     if crate::arguments::same(word, b"new") {
-        return new();
+        return new(rt);
     }
     if crate::arguments::same(word, b"list") {
-        return with(Job::List);
+        return with(rt, Job::List);
     }
-    match crate::arguments::number(4) {
+    match crate::arguments::number(rt, 4) {
         Asked::Nothing => crate::tell::FAILED,
-        Asked::Whole(room) => with_room(word, room, count),
+        Asked::Whole(room) => with_room(rt, word, room, count),
     }
 }
 
 // By argument 2. What is not a number is told before a file is read.
-pub(crate) fn run(count: usize) -> u8 {
+pub(crate) fn run(rt: HostRuntime, count: usize) -> u8 {
     let mut word = io::buffer();
-    let n = os::arg(2, &mut word);
-    named(&word[..n], count)
+    let n = crate::host::arg(rt, 2, &mut word);
+    named(rt, &word[..n], count)
 }

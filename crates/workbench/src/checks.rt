@@ -105,7 +105,14 @@ fn kind_in_words(line: Line, kind: Kind) -> Line {
 
 // `room3.card: ok, kind 1, 18 knots, minute 0 to 1020, lowest -463 at 388, highest 10216 at 131, beyond its
 // knots by 463 at 388`.
-fn summary(name: &[u8], kind: Kind, card: Card, found: Span, furthest: Swung) -> u8 {
+fn summary(
+    rt: HostRuntime,
+    name: &[u8],
+    kind: Kind,
+    card: Card,
+    found: Span,
+    furthest: Swung,
+) -> u8 {
     let lowest = found.lowest;
     let highest = found.highest;
     let told = kind_in_words(Line::new().words(b": ok, "), kind).words(b", ");
@@ -121,7 +128,7 @@ fn summary(name: &[u8], kind: Kind, card: Card, found: Span, furthest: Swung) ->
         .count(highest.minute as u64);
     crate::swings::furthest(high, furthest)
         .words(b"\n")
-        .print(name)
+        .print(rt, name)
 }
 
 // Minutes one after the other at which the curve is outside.
@@ -156,7 +163,7 @@ impl Stretch {
         }
     }
 
-    fn warn(self, name: &[u8], side: &[u8]) -> u8 {
+    fn warn(self, rt: HostRuntime, name: &[u8], side: &[u8]) -> u8 {
         if !self.open {
             return crate::tell::DONE;
         }
@@ -168,7 +175,7 @@ impl Stretch {
             .words(b" to ")
             .count(self.to as u64)
             .words(b"\n")
-            .print(name)
+            .print(rt, name)
     }
 }
 
@@ -177,7 +184,7 @@ fn outside(low: bool, value: i32) -> bool {
 }
 
 // A line for each stretch below 0, or above 10,000.
-fn warnings(name: &[u8], readings: Readings, low: bool, side: &[u8]) -> u8 {
+fn warnings(rt: HostRuntime, name: &[u8], readings: Readings, low: bool, side: &[u8]) -> u8 {
     let first = readings.first;
     let count = readings.count;
     let values = readings.values;
@@ -188,16 +195,16 @@ fn warnings(name: &[u8], readings: Readings, low: bool, side: &[u8]) -> u8 {
         if outside(low, crate::tables::at(&values, i)) {
             stretch = stretch.longer(crate::tables::minute_of(first, i));
         } else {
-            status = crate::tell::graver(status, stretch.warn(name, side));
+            status = crate::tell::graver(status, stretch.warn(rt, name, side));
             stretch = Stretch::none();
         }
         i += 1;
     }
-    crate::tell::graver(status, stretch.warn(name, side))
+    crate::tell::graver(status, stretch.warn(rt, name, side))
 }
 
 // `room3.card: note: knot 6: curvature 83201, a fresh fit gives 83200`.
-fn note(name: &[u8], knot: usize, what: &[u8], has: i32, fresh: i32) -> u8 {
+fn note(rt: HostRuntime, name: &[u8], knot: usize, what: &[u8], has: i32, fresh: i32) -> u8 {
     if has == fresh {
         return crate::tell::DONE;
     }
@@ -211,7 +218,7 @@ fn note(name: &[u8], knot: usize, what: &[u8], has: i32, fresh: i32) -> u8 {
         .words(b", a fresh fit gives ")
         .number(fresh)
         .words(b"\n")
-        .print(name)
+        .print(rt, name)
 }
 
 fn at_knot(list: &[i32; Kind::MOST], knot: usize) -> i32 {
@@ -222,6 +229,7 @@ fn at_knot(list: &[i32; Kind::MOST], knot: usize) -> i32 {
 }
 
 fn compare(
+    rt: HostRuntime,
     name: &[u8],
     card: Card,
     fresh_slopes: &[i32; Kind::MOST],
@@ -234,6 +242,7 @@ fn compare(
     let mut i: usize = 0;
     while i < knots {
         let slope = note(
+            rt,
             name,
             i,
             b"slope",
@@ -241,6 +250,7 @@ fn compare(
             at_knot(fresh_slopes, i),
         );
         let curvature = note(
+            rt,
             name,
             i,
             b"curvature",
@@ -254,42 +264,56 @@ fn compare(
 }
 
 // A fit of an accepted card's knots can still meet 8, 9 or 10.
-fn no_fit(name: &[u8], number: u32, place: u32) -> u8 {
+fn no_fit(rt: HostRuntime, name: &[u8], number: u32, place: u32) -> u8 {
     let line = Line::new()
         .words(b": note: a fresh fit of its knots is refused with ")
         .count(number as u64);
     line.words(b" at knot ")
         .count(place as u64)
         .words(b"\n")
-        .print(name)
+        .print(rt, name)
 }
 
-fn notes(name: &[u8], bytes: &[u8], card: Card) -> u8 {
+fn notes(rt: HostRuntime, name: &[u8], bytes: &[u8], card: Card) -> u8 {
     let mut slopes = [0i32; Kind::MOST];
     let mut curvatures = [0i32; Kind::MOST];
     let fresh = refit::refit(bytes, &mut slopes, &mut curvatures);
     if fresh.number != 0 {
-        return no_fit(name, fresh.number, fresh.place);
+        return no_fit(rt, name, fresh.number, fresh.place);
     }
-    compare(name, card, &slopes, &curvatures)
+    compare(rt, name, card, &slopes, &curvatures)
 }
 
-fn warn(name: &[u8], bytes: &[u8], readings: Readings, furthest: Swung, care: Care) -> u8 {
-    let below = warnings(name, readings, true, b"below 0");
-    let above = warnings(name, readings, false, b"above 10000");
-    let beyond = crate::swings::report(name, bytes, furthest, care);
+fn warn(
+    rt: HostRuntime,
+    name: &[u8],
+    bytes: &[u8],
+    readings: Readings,
+    furthest: Swung,
+    care: Care,
+) -> u8 {
+    let below = warnings(rt, name, readings, true, b"below 0");
+    let above = warnings(rt, name, readings, false, b"above 10000");
+    let beyond = crate::swings::report(rt, name, bytes, furthest, care);
     crate::tell::graver(crate::tell::graver(below, above), beyond)
 }
 
 // Of a card that is accepted.
-pub(crate) fn report(name: &[u8], bytes: &[u8], kind: Kind, card: Card, care: Care) -> u8 {
+pub(crate) fn report(
+    rt: HostRuntime,
+    name: &[u8],
+    bytes: &[u8],
+    kind: Kind,
+    card: Card,
+    care: Care,
+) -> u8 {
     let minutes = card.minutes;
     let readings = Readings::of(bytes, minutes[0]);
     let found = extremes(readings);
     let furthest = swing::swing(bytes);
-    let said = summary(name, kind, card, found, furthest);
-    let warned = warn(name, bytes, readings, furthest, care);
-    let noted = notes(name, bytes, card);
+    let said = summary(rt, name, kind, card, found, furthest);
+    let warned = warn(rt, name, bytes, readings, furthest, care);
+    let noted = notes(rt, name, bytes, card);
     crate::tell::graver(
         crate::tell::graver(said, warned),
         crate::tell::graver(noted, care.status(found.leaves())),

@@ -76,17 +76,17 @@ fn parted(begun: Line, part: i64, over: u64) -> Line {
 }
 
 // Behind lines that ended so; what cannot be written is told once.
-fn row(ended: u8, name: &[u8], number: i64, part: i64, over: u64) -> u8 {
+fn row(rt: HostRuntime, ended: u8, name: &[u8], number: i64, part: i64, over: u64) -> u8 {
     if ended != crate::tell::DONE {
         return ended;
     }
     let begun = Line::new()
         .words(name)
         .right(Line::new().long(number), NUMBER);
-    parted(begun, part, over).words(b"\n").print(b"")
+    parted(begun, part, over).words(b"\n").print(rt, b"")
 }
 
-fn sum_row(ended: u8, sum: i64, over: u64, value: i32) -> u8 {
+fn sum_row(rt: HostRuntime, ended: u8, sum: i64, over: u64, value: i32) -> u8 {
     if ended != crate::tell::DONE {
         return ended;
     }
@@ -94,11 +94,11 @@ fn sum_row(ended: u8, sum: i64, over: u64, value: i32) -> u8 {
         .words(b"  read as ")
         .number(value)
         .words(b"\n")
-        .print(b"")
+        .print(rt, b"")
 }
 
 // `minute 80: 20 minutes into gap 1, from minute 60 to 120; each part is over 6370099200000`.
-fn heading(minute: u16, told: Explained, card: Card) -> u8 {
+fn heading(rt: HostRuntime, minute: u16, told: Explained, card: Card) -> u8 {
     let minutes = card.minutes;
     let gap = told.gap as usize;
     let passed = Line::new()
@@ -120,7 +120,7 @@ fn heading(minute: u16, told: Explained, card: Card) -> u8 {
     lies.words(b"; each part is over ")
         .long(told.denominator)
         .words(b"\n")
-        .print(b"")
+        .print(rt, b"")
 }
 
 // A knot's own numbers; zeros where there is none.
@@ -138,17 +138,24 @@ fn knot_at(card: Card, i: usize) -> gaps::Knot {
     }
 }
 
-fn rows(ended: u8, told: Explained, card: Card) -> u8 {
+fn rows(rt: HostRuntime, ended: u8, told: Explained, card: Card) -> u8 {
     let over = decimal::magnitude(told.denominator);
     let gap = told.gap as usize;
     let a = knot_at(card, gap);
     let b = knot_at(card, gap + 1);
-    let y = row(ended, b"left ordinate", a.ordinate, told.ordinate, over);
-    let y1 = row(y, b"right ordinate", b.ordinate, told.ordinate1, over);
-    let m = row(y1, b"left slope", a.slope, told.slope, over);
-    let m1 = row(m, b"right slope", b.slope, told.slope1, over);
-    let c = row(m1, b"left curvature", a.curvature, told.curvature, over);
-    row(c, b"right curvature", b.curvature, told.curvature1, over)
+    let y = row(rt, ended, b"left ordinate", a.ordinate, told.ordinate, over);
+    let y1 = row(rt, y, b"right ordinate", b.ordinate, told.ordinate1, over);
+    let m = row(rt, y1, b"left slope", a.slope, told.slope, over);
+    let m1 = row(rt, m, b"right slope", b.slope, told.slope1, over);
+    let c = row(rt, m1, b"left curvature", a.curvature, told.curvature, over);
+    row(
+        rt,
+        c,
+        b"right curvature",
+        b.curvature,
+        told.curvature1,
+        over,
+    )
 }
 
 // ---- a refusal with 10
@@ -181,7 +188,7 @@ fn powers(line: Line, card: Card, knot: u32, order: u32) -> Line {
 
 // `: knot 2, minute 16: refused 10: the third derivative jumps by 589824, which is 196608 more than the
 // 393216 that is allowed; each over 8^3 * 8^3`.
-fn because(name: &[u8], told: Explained, card: Card) -> u8 {
+fn because(rt: HostRuntime, name: &[u8], told: Explained, card: Card) -> u8 {
     let minutes = card.minutes;
     let knot = told.knot as usize;
     let jump = decimal::magnitude(told.jump);
@@ -208,14 +215,14 @@ fn because(name: &[u8], told: Explained, card: Card) -> u8 {
         .words(b" that is allowed; each over ");
     powers(said, card, told.knot, told.order)
         .words(b"\n")
-        .say(name, false);
+        .say(rt, name, false);
     crate::tell::REFUSED
 }
 
 // As the readings at minutes tell it, but for 10.
-fn refused(name: &[u8], minute: u16, told: Explained, card: Card) -> u8 {
+fn refused(rt: HostRuntime, name: &[u8], minute: u16, told: Explained, card: Card) -> u8 {
     if told.number == 10 {
-        return because(name, told, card);
+        return because(rt, name, told, card);
     }
     if told.number == 11 {
         return crate::tell::refused_at(name, minute, told.number, told.place);
@@ -225,17 +232,18 @@ fn refused(name: &[u8], minute: u16, told: Explained, card: Card) -> u8 {
 
 // ---- of a card's bytes
 
-pub(crate) fn print(name: &[u8], bytes: &[u8], minute: u16) -> u8 {
+pub(crate) fn print(rt: HostRuntime, name: &[u8], bytes: &[u8], minute: u16) -> u8 {
     let told = explain::explain(bytes, minute);
     let sum = told.sum();
     let opened = Opened::by_head(bytes);
     let card = opened.card;
     if told.number != 0 {
-        return refused(name, minute, told, card);
+        return refused(rt, name, minute, told, card);
     }
-    let parted = rows(heading(minute, told, card), told, card);
+    let parted = rows(rt, heading(rt, minute, told, card), told, card);
     let reading = card::reading(bytes, minute);
     sum_row(
+        rt,
         parted,
         sum,
         decimal::magnitude(told.denominator),

@@ -1,17 +1,24 @@
 // A whole file read, and a file put in another's place at once. `-` is standard input or output.
 
 ghost use Rattle.std.specs.Prelude.{◌≡◌, ◌≤◌, length};
+ghost use Rattle.std.specs.Io.{ReadsAtMost};
 
-// `read_full` stops at the end and at a failure alike: one more call tells which it was.
-fn load_from(from: i32, bytes: &mut [u8]) -> isize {
-    let n = io::read_full(from, bytes);
-    if n < bytes.len() {
-        let mut more = [0u8; 1];
-        if libc::read(from, &mut more) < 0 {
-            return -1;
+use std::fs::File;
+use std::io::{Error, ErrorKind, Read, Write};
+
+// Reads until the buffer is full, the input ends or a read fails.
+fn load_from<R: Read>(from: &mut R, bytes: &mut [u8]) -> std::io::Result<usize>
+    ensures { ReadsAtMost result bytes.new }
+{
+    let mut done: usize = 0;
+    while done < bytes.len() {
+        let n = from.read(&mut bytes[done..])?;
+        if n == 0 {
+            break;
         }
+        done += n;
     }
-    n as isize
+    Ok(done)
 }
 
 pub(crate) fn is_dash(path: &[u8]) -> bool {
@@ -19,44 +26,39 @@ pub(crate) fn is_dash(path: &[u8]) -> bool {
 }
 
 // A file by its name, whatever that is; nothing is told.
-pub(crate) fn load_named(path: &[u8], bytes: &mut [u8]) -> isize {
-    let from = os::open_read(path);
-    if from < 0 {
-        return -1;
-    }
-    let got = load_from(from, bytes);
-    libc::close(from);
-    got
+pub(crate) fn load_named(rt: HostRuntime, path: &[u8], bytes: &mut [u8]) -> std::io::Result<usize>
+    ensures { ReadsAtMost result bytes.new }
+{
+    let mut from = crate::host::open_read(rt, path)?;
+    load_from(&mut from, bytes)
 }
 
 // As `load`, with nothing told.
-pub(crate) fn load_file(path: &[u8], bytes: &mut [u8]) -> isize {
+pub(crate) fn load_file(rt: HostRuntime, path: &[u8], bytes: &mut [u8]) -> std::io::Result<usize>
+    ensures { ReadsAtMost result bytes.new }
+{
     if is_dash(path) {
-        return load_from(0, bytes);
+        return load_from(&mut rt.stdin(), bytes);
     }
-    load_named(path, bytes)
-}
-
-// Whether what failed did so since there is no file of that name; no file has one that is too long.
-pub(crate) fn is_missing() -> bool {
-    let error = os::errno();
-    error == libc::ENOENT || error == libc::ENAMETOOLONG
+    load_named(rt, path, bytes)
 }
 
 // A name that does not fit into its buffer comes here as an empty one.
-pub(crate) fn fail_to_load(path: &[u8]) {
+pub(crate) fn fail_to_load(path: &[u8], error: Error) {
     if path.len() == 0 {
-        os::fail(b"a name that is empty or longer than 4096 bytes");
+        crate::host::fail(b"a name that is empty or longer than 4096 bytes", error);
         return;
     }
-    os::fail(path);
+    crate::host::fail(path, error);
 }
 
-// How many bytes were read; a negative number where that failed, which is told.
-pub(crate) fn load(path: &[u8], bytes: &mut [u8]) -> isize {
-    let got = load_file(path, bytes);
-    if got < 0 {
-        fail_to_load(path);
+// How many bytes were read; an error is told.
+pub(crate) fn load(rt: HostRuntime, path: &[u8], bytes: &mut [u8]) -> std::io::Result<usize>
+    ensures { ReadsAtMost result bytes.new }
+{
+    let got = load_file(rt, path, bytes);
+    if let Err(error) = got {
+        fail_to_load(path, error);
     }
     got
 }
@@ -64,45 +66,53 @@ pub(crate) fn load(path: &[u8], bytes: &mut [u8]) -> isize {
 const LONGEST: usize = 4000;
 
 // The name of the new file that is made beside the one that is asked for.
-fn beside(path: &[u8], name: &mut [u8]) -> usize
+fn beside(rt: HostRuntime, path: &[u8], name: &mut [u8]) -> usize
     requires { (length path.now ≤ 4000) × (length name.old ≡ 4096) }
 {
-    let process = crate::line::wide(libc::getpid());
+    let process = crate::host::process(rt);
     let n = decimal::put_words(name, 0, path);
-    decimal::put_worded(name, n, b".new", decimal::magnitude(process))
+    decimal::put_worded(name, n, b".new", process as u64)
 }
 
-// What went wrong is told before the new file goes, since that may set it anew.
-fn give_up(path: &[u8], beside: &[u8]) -> u8 {
-    os::fail(path);
-    os::unlink(beside);
+// What went wrong is told, and the new file goes.
+fn give_up(rt: HostRuntime, path: &[u8], beside: &[u8], error: Error) -> u8 {
+    crate::host::fail(path, error);
+    let _ = crate::host::unlink(rt, beside);
     crate::tell::FAILED
 }
 
+// Synced, and closed.
+fn sync(to: File) -> std::io::Result<()> {
+    to.sync_all()
+}
+
 // Synced, closed and renamed: the old file or the new one is there, and never a part.
-fn settle(path: &[u8], beside: &[u8], to: i32) -> u8 {
-    if libc::fsync(to) < 0 {
-        return give_up(path, beside);
+fn settle(rt: HostRuntime, path: &[u8], beside: &[u8], to: File) -> u8 {
+    if let Err(error) = sync(to) {
+        return give_up(rt, path, beside, error);
     }
-    if libc::close(to) < 0 {
-        return give_up(path, beside);
-    }
-    if os::rename(beside, path) < 0 {
-        return give_up(path, beside);
+    if let Err(error) = crate::host::rename(rt, beside, path) {
+        return give_up(rt, path, beside, error);
     }
     crate::tell::DONE
 }
 
-fn save_by(path: &[u8], beside: &[u8], bytes: &[u8]) -> u8 {
-    let to = os::create(beside);
-    if to < 0 {
-        os::fail(path);
-        return crate::tell::FAILED;
+fn failed(path: &[u8], error: Error) -> u8 {
+    crate::host::fail(path, error);
+    crate::tell::FAILED
+}
+
+fn save_by(rt: HostRuntime, path: &[u8], beside: &[u8], bytes: &[u8]) -> u8 {
+    match crate::host::create(rt, beside) {
+        Err(error) => failed(path, error),
+        Ok(file) => {
+            let mut to = file;
+            if let Err(error) = to.write_all(bytes) {
+                return give_up(rt, path, beside, error);
+            }
+            settle(rt, path, beside, to)
+        }
     }
-    if !io::write_all(to, bytes) {
-        return give_up(path, beside);
-    }
-    settle(path, beside, to)
 }
 
 fn too_long() -> u8 {
@@ -115,67 +125,66 @@ fn too_long() -> u8 {
 
 // Bytes as a file, or to standard output. No file has an empty name: one that does not fit into its buffer
 // comes here as such.
-pub(crate) fn save(path: &[u8], bytes: &[u8]) -> u8 {
+pub(crate) fn save(rt: HostRuntime, path: &[u8], bytes: &[u8]) -> u8 {
     if is_dash(path) {
-        return crate::tell::print(bytes);
+        return crate::tell::print(rt, bytes);
     }
     if path.len() == 0 || LONGEST < path.len() {
         return too_long();
     }
     let mut name = io::buffer();
-    let n = beside(path, &mut name);
-    save_by(path, crate::tell::front(&name, n), bytes)
+    let n = beside(rt, path, &mut name);
+    save_by(rt, path, crate::tell::front(&name, n), bytes)
 }
 
 // Bytes as a file where there is none: the name itself is made, which fails where it is taken, and renaming
 // it to itself changes nothing.
-pub(crate) fn make(path: &[u8], bytes: &[u8]) -> u8 {
+pub(crate) fn make(rt: HostRuntime, path: &[u8], bytes: &[u8]) -> u8 {
     if path.len() == 0 {
         return too_long();
     }
-    save_by(path, path, bytes)
+    save_by(rt, path, path, bytes)
 }
 
-fn copy(to: i32) -> bool {
+fn copy(to: &mut File) -> std::io::Result<()> {
     let mut bytes = io::large_buffer();
     let mut left: usize = 1_000_000;
     while 0 < left {
         let n = io::read_full(0, &mut bytes);
         if n == 0 {
-            return true;
+            return Ok(());
         }
-        if !io::write_all(to, &bytes[..n]) {
-            return false;
-        }
+        to.write_all(&bytes[..n])?;
         left -= 1;
     }
-    false
+    Err(Error::from(ErrorKind::FileTooLarge))
 }
 
-fn copy_by(path: &[u8], beside: &[u8]) -> u8 {
-    let to = os::create(beside);
-    if to < 0 {
-        os::fail(path);
-        return crate::tell::FAILED;
+fn copy_by(rt: HostRuntime, path: &[u8], beside: &[u8]) -> u8 {
+    match crate::host::create(rt, beside) {
+        Err(error) => failed(path, error),
+        Ok(file) => {
+            let mut to = file;
+            if let Err(error) = copy(&mut to) {
+                return give_up(rt, path, beside, error);
+            }
+            settle(rt, path, beside, to)
+        }
     }
-    if !copy(to) {
-        return give_up(path, beside);
-    }
-    settle(path, beside, to)
 }
 
-fn copy_input(path: &[u8]) -> u8 {
+fn copy_input(rt: HostRuntime, path: &[u8]) -> u8 {
     if path.len() == 0 || LONGEST < path.len() {
         return too_long();
     }
     let mut name = io::buffer();
-    let n = beside(path, &mut name);
-    copy_by(path, crate::tell::front(&name, n))
+    let n = beside(rt, path, &mut name);
+    copy_by(rt, path, crate::tell::front(&name, n))
 }
 
 // Standard input as a file of argument 2's name.
-pub(crate) fn save_input() -> u8 {
+pub(crate) fn save_input(rt: HostRuntime) -> u8 {
     let mut path = io::buffer();
-    let n = os::arg(2, &mut path);
-    copy_input(&path[..n])
+    let n = crate::host::arg(rt, 2, &mut path);
+    copy_input(rt, &path[..n])
 }

@@ -44,43 +44,43 @@ fn refused(file: &[u8], lines: &[u32], heated: Heated) -> u8 {
 }
 
 // `12 2310`.
-fn print_value(count: u16, value: i32) -> u8 {
+fn print_value(rt: HostRuntime, count: u16, value: i32) -> u8 {
     Line::new()
         .count(count as u64)
         .words(b" ")
         .number(value)
         .words(b"\n")
-        .print(b"")
+        .print(rt, b"")
 }
 
-fn print_ok(lines: u16) -> u8 {
+fn print_ok(rt: HostRuntime, lines: u16) -> u8 {
     Line::new()
         .words(b"ok ")
         .count(lines as u64)
         .words(b"\n")
-        .print(b"")
+        .print(rt, b"")
 }
 
 // A line for each count, and how many there are. The table ends them: behind its last value it refuses. What
 // cannot be written is told once.
-fn print_all(values: &[i16], parts: u16) -> u8 {
+fn print_all(rt: HostRuntime, values: &[i16], parts: u16) -> u8 {
     let mut count: u16 = 0;
     while count < LAST {
         let heated = preheat::value(values, parts, count);
         if heated.number != 0 {
-            return print_ok(count);
+            return print_ok(rt, count);
         }
-        let printed = print_value(count, heated.value);
+        let printed = print_value(rt, count, heated.value);
         if printed != crate::tell::DONE {
             return printed;
         }
         count += 1;
     }
-    print_ok(count)
+    print_ok(rt, count)
 }
 
 // What is refused is so at every count, and told before anything is printed.
-fn with_text(file: &[u8], text: &[u8], parts: u16) -> u8 {
+fn with_text(rt: HostRuntime, file: &[u8], text: &[u8], parts: u16) -> u8 {
     let read = Values::read(text);
     if read.wrong != 0 {
         let mut said = io::buffer();
@@ -95,25 +95,23 @@ fn with_text(file: &[u8], text: &[u8], parts: u16) -> u8 {
     if first.number != 0 {
         return refused(file, &lines, first);
     }
-    print_all(values, parts)
+    print_all(rt, values, parts)
 }
 
-fn with_parts(parts: u16) -> u8 {
+fn with_parts(rt: HostRuntime, parts: u16) -> u8 {
     let mut file = io::buffer();
-    let n = os::arg(3, &mut file);
+    let n = crate::host::arg(rt, 3, &mut file);
     let mut bytes = io::large_buffer();
-    let got = crate::files::load(&file[..n], &mut bytes);
-    if got < 0 {
+    let Ok(k) = crate::files::load(rt, &file[..n], &mut bytes) else {
         return crate::tell::FAILED;
-    }
-    let k = io::count(got, &bytes);
-    with_text(&file[..n], &bytes[..k], parts)
+    };
+    with_text(rt, &file[..n], &bytes[..k], parts)
 }
 
 // Argument 2 is how many parts a step has, argument 3 the file.
-pub(crate) fn print() -> u8 {
-    match crate::arguments::number(2) {
+pub(crate) fn print(rt: HostRuntime) -> u8 {
+    match crate::arguments::number(rt, 2) {
         Asked::Nothing => crate::tell::FAILED,
-        Asked::Whole(parts) => with_parts(parts),
+        Asked::Whole(parts) => with_parts(rt, parts),
     }
 }

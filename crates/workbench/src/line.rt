@@ -81,8 +81,27 @@ impl Line {
         self.blanks(from).words(crate::tell::front(&bytes, n))
     }
 
+    // What stands in another line.
+    pub(crate) fn line(self, said: Line) -> Line {
+        let bytes = said.bytes;
+        self.words(crate::tell::front(&bytes, said.length))
+    }
+
+    // What stands before the last bracket that opens, without the blank between.
+    pub(crate) fn before_bracket(self) -> Line {
+        let bytes = self.bytes;
+        let at = crate::rooms::last(crate::tell::front(&bytes, self.length), b'(');
+        if at == 0 || self.length <= at {
+            return self;
+        }
+        Line {
+            bytes,
+            length: at - 1,
+        }
+    }
+
     // Behind a name, to standard error.
-    fn tell(self, name: &[u8]) -> u8 {
+    pub(crate) fn tell(self, name: &[u8]) -> u8 {
         let bytes = self.bytes;
         io::write_all(2, name);
         io::write_all(2, crate::tell::front(&bytes, self.length));
@@ -90,19 +109,26 @@ impl Line {
     }
 
     // To standard output where it is the answer, to standard error where it stands beside one.
-    pub(crate) fn say(self, name: &[u8], aloud: bool) -> u8 {
+    pub(crate) fn say(self, rt: HostRuntime, name: &[u8], aloud: bool) -> u8 {
         if aloud {
-            return self.print(name);
+            return self.print(rt, name);
         }
         self.tell(name)
     }
 
     // Behind a name, to standard output.
-    pub(crate) fn print(self, name: &[u8]) -> u8 {
+    pub(crate) fn print(self, rt: HostRuntime, name: &[u8]) -> u8 {
         let bytes = self.bytes;
-        let named = crate::tell::print(name);
-        let said = crate::tell::print(crate::tell::front(&bytes, self.length));
+        let named = crate::tell::print(rt, name);
+        let said = crate::tell::print(rt, crate::tell::front(&bytes, self.length));
         crate::tell::graver(named, said)
+    }
+}
+
+impl std::fmt::Write for Line {
+    fn write_str(&mut self, text: &str) -> std::fmt::Result {
+        *self = self.words(text.as_bytes());
+        Ok(())
     }
 }
 

@@ -16,51 +16,61 @@ mod checks;
 mod explained;
 mod files;
 mod heats;
+mod host;
 mod line;
 mod logs;
-mod numbers;
 mod rooms;
 mod sheets;
 mod slots;
 mod swings;
 mod tables;
 mod tell;
-mod weights;
+mod weight_lines;
+mod whys;
 
-fn run(command: &[u8], count: usize) -> u8 {
+use std::process::ExitCode;
+
+fn run(rt: HostRuntime, command: &[u8], count: usize) -> u8 {
     if arguments::same(command, b"fit") {
-        return sheets::fit(count);
+        return sheets::fit(rt, count);
     }
     if arguments::same(command, b"free") {
-        return sheets::fit_free(count);
+        return sheets::fit_free(rt, count);
     }
     if arguments::same(command, b"mend") {
-        return sheets::mend(count);
+        return sheets::mend(rt, count);
     }
     if arguments::same(command, b"mean") {
-        return logs::mean();
+        return logs::mean(rt);
     }
     if arguments::same(command, b"preheat") {
-        return heats::print();
+        return heats::print(rt);
     }
     if arguments::same(command, b"why") {
-        return numbers::why();
+        return whys::why(rt);
     }
     if arguments::same(command, b"weights") {
-        return weights::print();
+        return weight_lines::print(rt);
     }
     if arguments::same(command, b"book") {
-        return books::run(count);
+        return books::run(rt, count);
     }
     if arguments::same(command, b"save") {
-        return files::save_input();
+        return files::save_input(rt);
     }
-    cards::run(command, count)
+    cards::run(rt, command, count)
 }
 
-fn main() {
+// The status with which a shell sees a program that wrote to a pipe that nobody reads.
+const PIPE: u8 = 141;
+
+fn main(rt: HostRuntime) -> ExitCode {
     let mut command = io::buffer();
-    let n = os::arg(1, &mut command);
-    let status = run(&command[..n], os::arg_count());
+    let n = host::arg(rt, 1, &mut command);
+    let status = run(rt, &command[..n], host::arg_count(rt));
+    if status == tell::GONE {
+        return ExitCode::from(PIPE);
+    }
     io::write_all(3, &[status]);
+    ExitCode::SUCCESS
 }

@@ -24,6 +24,7 @@ struct Wish {
 // then the card, so that a listing is seen only where all is done; where no card is asked for, its name
 // counts for nothing.
 fn saved(
+    rt: HostRuntime,
     file: &[u8],
     wish: Wish,
     card: &[u8],
@@ -38,25 +39,33 @@ fn saved(
         return answered.status;
     }
     let bytes = crate::tell::front(made, answered.card as usize);
-    let allowed = crate::swings::allow(file, lines, bytes, wish.care);
+    let allowed = crate::swings::allow(rt, file, lines, bytes, wish.care);
     if allowed == crate::tell::DONE && wish.asked {
-        return crate::files::save(card, bytes);
+        return crate::files::save(rt, card, bytes);
     }
     allowed
 }
 
 // A card that goes to standard output goes alone.
-fn listed(asked: bool, card: &[u8], listing: &[u8]) -> u8 {
+fn listed(rt: HostRuntime, asked: bool, card: &[u8], listing: &[u8]) -> u8 {
     if asked && crate::files::is_dash(card) {
         return crate::tell::DONE;
     }
-    crate::tell::print(listing)
+    crate::tell::print(rt, listing)
 }
 
-fn fit_text(text: &[u8], file: &[u8], wish: Wish, card: &[u8], left: End, right: End) -> u8 {
+fn fit_text(
+    rt: HostRuntime,
+    text: &[u8],
+    file: &[u8],
+    wish: Wish,
+    card: &[u8],
+    left: End,
+    right: End,
+) -> u8 {
     let sheet = Sheet::read(text, false);
     let mut logs = io::buffer();
-    if !crate::slots::load(file, text, sheet, &mut logs) {
+    if !crate::slots::load(rt, file, text, sheet, &mut logs) {
         return crate::tell::FAILED;
     }
     let mut said = io::buffer();
@@ -64,11 +73,11 @@ fn fit_text(text: &[u8], file: &[u8], wish: Wish, card: &[u8], left: End, right:
     let answered = reply::answer(text, sheet, &logs, left, right, &mut said, &mut made);
     let lines = sheet.lines;
     let length = answered.length;
-    let status = saved(file, wish, card, lines, answered, &said, &made);
+    let status = saved(rt, file, wish, card, lines, answered, &said, &made);
     if status != crate::tell::DONE {
         return status;
     }
-    listed(wish.asked, card, crate::tell::front(&said, length))
+    listed(rt, wish.asked, card, crate::tell::front(&said, length))
 }
 
 fn tell_change(file: &[u8], line: u32, knot: u32, new: i32) {
@@ -94,10 +103,10 @@ fn tell_changes(file: &[u8], plan: Plan, lines: [u32; Sheet::MOST]) {
     }
 }
 
-fn mend_text(text: &[u8], file: &[u8], wish: Wish, card: &[u8]) -> u8 {
+fn mend_text(rt: HostRuntime, text: &[u8], file: &[u8], wish: Wish, card: &[u8]) -> u8 {
     let sheet = Sheet::read(text, true);
     let mut logs = io::buffer();
-    if !crate::slots::load(file, text, sheet, &mut logs) {
+    if !crate::slots::load(rt, file, text, sheet, &mut logs) {
         return crate::tell::FAILED;
     }
     let mut said = io::buffer();
@@ -107,56 +116,54 @@ fn mend_text(text: &[u8], file: &[u8], wish: Wish, card: &[u8]) -> u8 {
     let plan = mending.plan;
     let lines = mending.lines;
     let length = answered.length;
-    let status = saved(file, wish, card, lines, answered, &said, &made);
+    let status = saved(rt, file, wish, card, lines, answered, &said, &made);
     if status != crate::tell::DONE {
         return status;
     }
     tell_changes(file, plan, lines);
-    listed(wish.asked, card, crate::tell::front(&said, length))
+    listed(rt, wish.asked, card, crate::tell::front(&said, length))
 }
 
-fn with_sheet(file: &[u8], wish: Wish, card: &[u8], job: Job) -> u8 {
+fn with_sheet(rt: HostRuntime, file: &[u8], wish: Wish, card: &[u8], job: Job) -> u8 {
     let mut bytes = io::large_buffer();
-    let got = crate::files::load(file, &mut bytes);
-    if got < 0 {
+    let Ok(n) = crate::files::load(rt, file, &mut bytes) else {
         return crate::tell::FAILED;
-    }
-    let n = io::count(got, &bytes);
+    };
     match job {
-        Job::Fit(left, right) => fit_text(&bytes[..n], file, wish, card, left, right),
-        Job::Mend => mend_text(&bytes[..n], file, wish, card),
+        Job::Fit(left, right) => fit_text(rt, &bytes[..n], file, wish, card, left, right),
+        Job::Mend => mend_text(rt, &bytes[..n], file, wish, card),
     }
 }
 
 // Argument 2 is the sheet and, where there is one, argument 5 the card.
-fn run_with(count: usize, job: Job, care: Care) -> u8 {
+fn run_with(rt: HostRuntime, count: usize, job: Job, care: Care) -> u8 {
     let mut file = io::buffer();
-    let n = os::arg(2, &mut file);
+    let n = crate::host::arg(rt, 2, &mut file);
     let mut card = io::buffer();
-    let k = os::arg(5, &mut card);
+    let k = crate::host::arg(rt, 5, &mut card);
     let wish = Wish {
         asked: 5 < count,
         care,
     };
-    with_sheet(&file[..n], wish, &card[..k], job)
+    with_sheet(rt, &file[..n], wish, &card[..k], job)
 }
 
-fn run(count: usize, job: Job) -> u8 {
-    match crate::swings::asked_for(3, 4) {
+fn run(rt: HostRuntime, count: usize, job: Job) -> u8 {
+    match crate::swings::asked_for(rt, 3, 4) {
         Cared::Nothing => crate::tell::FAILED,
-        Cared::For(care) => run_with(count, job, care),
+        Cared::For(care) => run_with(rt, count, job, care),
     }
 }
 
 // Without ends named: it starts at rest.
-pub(crate) fn fit(count: usize) -> u8 {
-    run(count, Job::Fit(fit::DEFAULT_LEFT, fit::DEFAULT_RIGHT))
+pub(crate) fn fit(rt: HostRuntime, count: usize) -> u8 {
+    run(rt, count, Job::Fit(fit::DEFAULT_LEFT, fit::DEFAULT_RIGHT))
 }
 
-pub(crate) fn fit_free(count: usize) -> u8 {
-    run(count, Job::Fit(End::Free, End::Free))
+pub(crate) fn fit_free(rt: HostRuntime, count: usize) -> u8 {
+    run(rt, count, Job::Fit(End::Free, End::Free))
 }
 
-pub(crate) fn mend(count: usize) -> u8 {
-    run(count, Job::Mend)
+pub(crate) fn mend(rt: HostRuntime, count: usize) -> u8 {
+    run(rt, count, Job::Mend)
 }

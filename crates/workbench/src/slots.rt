@@ -4,6 +4,7 @@ ghost use Rattle.std.specs.Prelude.{◌≡◌, ◌+◌, ◌≤◌, ◌<◌, leng
 ghost use Rattle.reply.specs.Knots.{slot};
 
 use reply::SLOT;
+use std::io::Error;
 use text::Sheet;
 
 // The folder of a file, with the slash; nothing where its name has none.
@@ -35,12 +36,12 @@ fn put_path(path: &mut [u8], file: &[u8], name: &[u8]) -> usize {
 }
 
 // `night.sheet:4: hour.log: No such file or directory`.
-fn fail_to_load(file: &[u8], line: u32, path: &[u8]) {
+fn fail_to_load(file: &[u8], line: u32, path: &[u8], error: Error) {
     io::write_all(2, file);
     io::write_all(2, b":");
     io::print_decimal(2, line as u64);
     io::write_all(2, b": ");
-    crate::files::fail_to_load(path);
+    crate::files::fail_to_load(path, error);
 }
 
 fn put_log(logs: &mut [u8], at: usize, log: &[u8])
@@ -51,41 +52,58 @@ fn put_log(logs: &mut [u8], at: usize, log: &[u8])
 }
 
 // `-` is a name like any other. Of a log that is too long one byte too many is read, and no further one.
-fn load_log(file: &[u8], line: u32, name: &[u8], logs: &mut [u8], at: usize) -> bool
+fn load_log(
+    rt: HostRuntime,
+    file: &[u8],
+    line: u32,
+    name: &[u8],
+    logs: &mut [u8],
+    at: usize,
+) -> bool
     requires { at + slot ≤ length logs.old }
 {
     let mut path = io::buffer();
     let n = put_path(&mut path, file, name);
     let mut log = [0u8; SLOT - 1];
-    let got = crate::files::load_named(crate::tell::front(&path, n), &mut log);
-    if got < 0 {
-        fail_to_load(file, line, crate::tell::front(&path, n));
-        return false;
+    match crate::files::load_named(rt, crate::tell::front(&path, n), &mut log) {
+        Err(error) => {
+            fail_to_load(file, line, crate::tell::front(&path, n), error);
+            false
+        }
+        Ok(k) => {
+            put_log(logs, at, &log[..k]);
+            true
+        }
     }
-    let k = io::count(got, &log);
-    put_log(logs, at, &log[..k]);
-    true
 }
 
-fn load_knot(is_log: bool, file: &[u8], text: &[u8], line: u32, logs: &mut [u8], at: usize) -> bool
+fn load_knot(
+    rt: HostRuntime,
+    is_log: bool,
+    file: &[u8],
+    text: &[u8],
+    line: u32,
+    logs: &mut [u8],
+    at: usize,
+) -> bool
     requires { at + slot ≤ length logs.old }
 {
     if !is_log {
         return true;
     }
-    load_log(file, line, text::log_name(text, line), logs, at)
+    load_log(rt, file, line, text::log_name(text, line), logs, at)
 }
 
 // Whether all could be read, in the order of the lines; the first that could not is told. A sheet with
 // anything wrong has no log.
-pub(crate) fn load(file: &[u8], text: &[u8], sheet: Sheet, logs: &mut [u8]) -> bool
+pub(crate) fn load(rt: HostRuntime, file: &[u8], text: &[u8], sheet: Sheet, logs: &mut [u8]) -> bool
     requires { length logs.old ≡ 4096 }
 {
     let are_logs = sheet.logs;
     let lines = sheet.lines;
     let mut i: usize = 0;
     while i < Sheet::MOST {
-        if !load_knot(are_logs[i], file, text, lines[i], logs, SLOT * i) {
+        if !load_knot(rt, are_logs[i], file, text, lines[i], logs, SLOT * i) {
             return false;
         }
         i += 1;

@@ -58,9 +58,9 @@ fn told(word: &[u8]) -> Cared {
     Cared::Nothing
 }
 
-fn is_strict(i: usize) -> bool {
+fn is_strict(rt: HostRuntime, i: usize) -> bool {
     let mut word = io::buffer();
-    let n = os::arg(i, &mut word);
+    let n = crate::host::arg(rt, i, &mut word);
     crate::arguments::same(&word[..n], b"strict")
 }
 
@@ -80,10 +80,10 @@ fn by_words(word: &[u8], strict: bool) -> Cared {
 }
 
 // By the arguments of these numbers: the bound, and `strict` or another word. A bound that is none is told.
-pub(crate) fn asked_for(bound: usize, manner: usize) -> Cared {
+pub(crate) fn asked_for(rt: HostRuntime, bound: usize, manner: usize) -> Cared {
     let mut word = io::buffer();
-    let n = os::arg(bound, &mut word);
-    by_words(&word[..n], is_strict(manner))
+    let n = crate::host::arg(rt, bound, &mut word);
+    by_words(&word[..n], is_strict(rt, manner))
 }
 
 // ---- a line for each gap
@@ -112,7 +112,15 @@ impl Place {
     }
 
     // `a.sheet:3: warning: between minute 65 and 125 the curve goes 886 below both knots, lowest at 88: ..`
-    fn warn(self, name: &[u8], aloud: bool, by: u32, side: &[u8], minute: u16) -> u8 {
+    fn warn(
+        self,
+        rt: HostRuntime,
+        name: &[u8],
+        aloud: bool,
+        by: u32,
+        side: &[u8],
+        minute: u16,
+    ) -> u8 {
         let said = self
             .begun()
             .words(b" the curve goes ")
@@ -125,7 +133,7 @@ impl Place {
         } else {
             said.words(b", or fit with --free")
         };
-        advised.words(b"\n").say(name, aloud)
+        advised.words(b"\n").say(rt, name, aloud)
     }
 }
 
@@ -138,6 +146,7 @@ pub(crate) fn minute_at(minutes: &[u16; Kind::MOST], knot: usize) -> u16 {
 }
 
 fn warn_side(
+    rt: HostRuntime,
     name: &[u8],
     aloud: bool,
     place: Place,
@@ -147,13 +156,14 @@ fn warn_side(
     minute: u16,
 ) -> u8 {
     if bound < by {
-        return place.warn(name, aloud, by, side, minute);
+        return place.warn(rt, name, aloud, by, side, minute);
     }
     crate::tell::DONE
 }
 
 // Of the gap before knot i.
 fn warn_gap(
+    rt: HostRuntime,
     name: &[u8],
     aloud: bool,
     lines: [u32; Sheet::MOST],
@@ -173,6 +183,7 @@ fn warn_gap(
         free: card.left == 0,
     };
     let below = warn_side(
+        rt,
         name,
         aloud,
         place,
@@ -182,6 +193,7 @@ fn warn_gap(
         swing.lowest,
     );
     let above = warn_side(
+        rt,
         name,
         aloud,
         place,
@@ -193,27 +205,41 @@ fn warn_gap(
     crate::tell::graver(below, above)
 }
 
-fn warn_gaps(name: &[u8], aloud: bool, lines: [u32; Sheet::MOST], bound: u32, card: Card) -> u8
+fn warn_gaps(
+    rt: HostRuntime,
+    name: &[u8],
+    aloud: bool,
+    lines: [u32; Sheet::MOST],
+    bound: u32,
+    card: Card,
+) -> u8
     requires { Readable card }
 {
     let knots = card.knots;
     let mut status = crate::tell::DONE;
     let mut i: usize = 1;
     while i < knots {
-        status = crate::tell::graver(status, warn_gap(name, aloud, lines, bound, card, i));
+        status = crate::tell::graver(status, warn_gap(rt, name, aloud, lines, bound, card, i));
         i += 1;
     }
     status
 }
 
 // Of a card by its bytes. A card that is refused is not warned of.
-fn warn(name: &[u8], aloud: bool, lines: [u32; Sheet::MOST], bound: u32, bytes: &[u8]) -> u8 {
+fn warn(
+    rt: HostRuntime,
+    name: &[u8],
+    aloud: bool,
+    lines: [u32; Sheet::MOST],
+    bound: u32,
+    bytes: &[u8],
+) -> u8 {
     let opened = Opened::by_head(bytes);
     let verdict = opened.verdict;
     let card = opened.card;
     match verdict {
         Judged::Refused(_, _) => crate::tell::DONE,
-        Judged::Accepted => warn_gaps(name, aloud, lines, bound, card),
+        Judged::Accepted => warn_gaps(rt, name, aloud, lines, bound, card),
     }
 }
 
@@ -236,21 +262,33 @@ pub(crate) fn furthest(line: Line, swing: Swung) -> Line {
 }
 
 // In a report, behind it: a line for each, and how that ends.
-pub(crate) fn report(name: &[u8], bytes: &[u8], furthest: Swung, care: Care) -> u8 {
+pub(crate) fn report(
+    rt: HostRuntime,
+    name: &[u8],
+    bytes: &[u8],
+    furthest: Swung,
+    care: Care,
+) -> u8 {
     if !care.warns(furthest) {
         return crate::tell::DONE;
     }
-    let said = warn(name, true, [0; Sheet::MOST], care.bound, bytes);
+    let said = warn(rt, name, true, [0; Sheet::MOST], care.bound, bytes);
     crate::tell::graver(said, care.status(true))
 }
 
 // Where a card is made or put in: beside it, before anything is written; what is told of a curve that is
 // refused for it stands behind.
-pub(crate) fn allow(name: &[u8], lines: [u32; Sheet::MOST], bytes: &[u8], care: Care) -> u8 {
+pub(crate) fn allow(
+    rt: HostRuntime,
+    name: &[u8],
+    lines: [u32; Sheet::MOST],
+    bytes: &[u8],
+    care: Care,
+) -> u8 {
     if !care.warns(swing::swing(bytes)) {
         return crate::tell::DONE;
     }
-    warn(name, false, lines, care.bound, bytes);
+    warn(rt, name, false, lines, care.bound, bytes);
     let status = care.status(true);
     if status != crate::tell::DONE {
         io::write_all(2, name);

@@ -79,7 +79,7 @@ fn at_most(count: usize) -> usize
 }
 
 // Every so many minutes, from the first on.
-fn print_lines(readings: Readings, every: usize) -> u8
+fn print_lines(rt: HostRuntime, readings: Readings, every: usize) -> u8
     requires { (0 < every) × (every < 65536) }
 {
     let first = readings.first;
@@ -96,7 +96,7 @@ fn print_lines(readings: Readings, every: usize) -> u8
         if Readings::NEARLY_FULL < next {
             status = crate::tell::graver(
                 status,
-                crate::tell::print(crate::tell::front(&text, next)),
+                crate::tell::print(rt, crate::tell::front(&text, next)),
             );
             next = 0;
         }
@@ -110,13 +110,16 @@ fn print_lines(readings: Readings, every: usize) -> u8
         );
         i += every;
     }
-    crate::tell::graver(status, crate::tell::print(crate::tell::front(&text, next)))
+    crate::tell::graver(
+        status,
+        crate::tell::print(rt, crate::tell::front(&text, next)),
+    )
 }
 
-pub(crate) fn print(card: &[u8], first: u16, every: u16) -> u8 {
+pub(crate) fn print(rt: HostRuntime, card: &[u8], first: u16, every: u16) -> u8 {
     if every == 0 {
         io::write_all(2, b"kaihveto: --every asks for a number above 0\n");
         return crate::tell::FAILED;
     }
-    print_lines(Readings::of(card, first), every as usize)
+    print_lines(rt, Readings::of(card, first), every as usize)
 }

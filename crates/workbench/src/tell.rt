@@ -1,10 +1,16 @@
 // What a command ends with, and what it says where it is not done.
+use std::io::{Error, ErrorKind};
+
 pub(crate) const DONE: u8 = b'0';
 
 pub(crate) const REFUSED: u8 = b'1';
 
 // Wrong use, or a file that cannot be read or written.
 pub(crate) const FAILED: u8 = b'2';
+
+// Whoever read standard output has gone. No more is said then, and no status is told: a program that the
+// system ends there, as it does one that does not ask to go on, says none either.
+pub(crate) const GONE: u8 = b'3';
 
 // Of two things done one after the other.
 pub(crate) fn graver(a: u8, b: u8) -> u8 {
@@ -19,13 +25,20 @@ pub(crate) fn front(text: &[u8], n: usize) -> &[u8] {
     text
 }
 
-// To standard output; a full disk is told.
-pub(crate) fn print(said: &[u8]) -> u8 {
-    if io::write_all(1, said) {
-        return DONE;
+fn unprinted(error: Error) -> u8 {
+    if error.kind() == ErrorKind::BrokenPipe {
+        return GONE;
     }
-    os::fail(b"standard output");
+    crate::host::fail(b"standard output", error);
     FAILED
+}
+
+// To standard output; a full disk is told.
+pub(crate) fn print(rt: HostRuntime, said: &[u8]) -> u8 {
+    match rt.write_all(said) {
+        Ok(()) => DONE,
+        Err(error) => unprinted(error),
+    }
 }
 
 // One line behind the name of what is refused.

@@ -23,7 +23,7 @@ loop-left-preserved-then-turn c =
     let t = c.take_record-turn in
     let i = c.loop-left.invariant in (
       t.ensures.near,
-      t.auto.1.0 ∙ i.1,
+      t.auto.space ∙ i.1,
       ⊎_elim (λ e. absurd (true≢false (sym c.if-turn.true ∙ e.0))) (λ e. rw e.is (reads_go_on i.2 (omega arith) e.head e.body e.taken)) t.ensures.by_one,
     )
 
@@ -32,7 +32,7 @@ loop-left-preserved c =
     let t = c.take_record-turn in
     let i = c.loop-left.invariant in (
       t.ensures.near,
-      t.auto.1.0 ∙ i.1,
+      t.auto.space ∙ i.1,
       ⊎_elim (λ e. rw e.1 (reads_stop i.2)) (λ e. rw e.is (reads_stop (reads_go_on i.2 (omega arith) e.head e.body e.taken))) t.ensures.by_one,
     )
 
