@@ -28,6 +28,11 @@ pub fn safe(name: &str) -> String {
     }
 }
 
+/// A symbol without the types that it is at.
+pub fn base(symbol: &str) -> &str {
+    symbol.split(['<', '#']).next().unwrap_or(symbol)
+}
+
 /// A comment of C around some words, in lines of 110 columns.
 pub fn comment(words: &str) -> String {
     let mut text = String::from("/*");
@@ -45,23 +50,30 @@ pub fn comment(words: &str) -> String {
 }
 
 impl Names {
-    /// Reads the sources of all crates in a folder: DIR/CRATE/src/*.rt.
+    /// Reads the sources of all crates in a folder: DIR/CRATE/src/*.rt, and the folders there.
     pub fn read(&mut self, folder: &Path) {
         for krate in entries(folder) {
-            let name = file_stem(&krate);
-            for file in entries(&krate.join("src")).iter().filter(|f| f.extension().is_some_and(|e| e == "rt")) {
-                let module = match file_stem(file).as_str() {
-                    "lib" | "main" => name.clone(),
-                    module => format!("{name}::{module}"),
-                };
-                self.read_text(&module, &std::fs::read_to_string(file).unwrap_or_default());
+            self.read_modules(&file_stem(&krate), &krate.join("src"));
+        }
+    }
+
+    fn read_modules(&mut self, owner: &str, folder: &Path) {
+        for file in entries(folder) {
+            let module = match file_stem(&file).as_str() {
+                "lib" | "main" | "mod" => owner.to_string(),
+                module => format!("{owner}::{module}"),
+            };
+            if file.is_dir() {
+                self.read_modules(&module, &file);
+            } else if file.extension().is_some_and(|e| e == "rt") {
+                self.read_text(&module, &std::fs::read_to_string(&file).unwrap_or_default());
             }
         }
     }
 
     /// The symbol, with what the source says above it.
     pub fn comment(&self, symbol: &str) -> String {
-        match self.comments.get(symbol) {
+        match self.comments.get(base(symbol)) {
             Some(said) => comment(&format!("{symbol}. {said}")),
             None => comment(symbol),
         }

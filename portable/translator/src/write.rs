@@ -2,7 +2,7 @@
 //! statement of its own.
 use crate::code::{Expr, Function, Stmt};
 use crate::flow::{own, Ready, Scope};
-use crate::names::{safe, Names};
+use crate::names::{base, safe, Names};
 use crate::operations::{Helpers, Op2};
 use crate::term::fail;
 use crate::types::{c_name, Ty};
@@ -11,7 +11,7 @@ use std::collections::BTreeSet;
 /// The names of a function's locals: the source's, where they are found and no two are alike, else r, a1 ..
 /// for parameters and v2 .. for others.
 pub fn local_names(names: &Names, symbol: &str, f: &Function, globals: &BTreeSet<String>) -> Vec<String> {
-    let (params, bound) = names.functions.get(symbol).cloned().unwrap_or_default();
+    let (params, bound) = names.functions.get(base(symbol)).cloned().unwrap_or_default();
     let mut all = vec!["result".to_string()];
     for i in 1..f.locals.len() {
         let number = if i <= f.params { format!("a{i}") } else { format!("v{i}") };
@@ -81,7 +81,7 @@ fn whole_call(text: &str) -> bool {
     name && open > 0 && closes.is_some_and(|(i, _)| i + 1 == text.len())
 }
 
-fn float(bits: u64) -> String {
+pub fn float(bits: u64) -> String {
     let x = f64::from_bits(bits);
     if !x.is_finite() {
         return fail("a constant that is not finite", &x.to_string());
@@ -210,11 +210,15 @@ impl<'r, 'a> Writer<'r, 'a> {
             }
             Expr::Op2(o, a, b) => self.op2(*o, a, b),
             Expr::AddrOf(p) => match &**p {
-                Expr::Deref(q, t) => self.pointer(q, t),
+                Expr::Deref(q, t) => match &**q {
+                    Expr::AddrOf(array) if matches!(self.ty(array), Ty::Array(of, _) if *of == *t) => self.part(array, "e"),
+                    _ => self.pointer(q, t),
+                },
                 _ => format!("&{}", self.value(p)),
             },
             Expr::Aggregate(xs, t) => self.aggregate(xs, t),
             Expr::Table(k, _) => self.tables[*k].clone(),
+            Expr::Lent(_, t) => fail("a constant that is no table", &t.tag()),
         }
     }
 
@@ -362,6 +366,11 @@ impl<'r, 'a> Writer<'r, 'a> {
     /// Writes a statement, and tells whether the code comes past it.
     fn statement(&mut self, s: &Stmt) -> bool {
         match s {
+            Stmt::Unreachable => {
+                self.line("for (;;) {");
+                self.line("}");
+                false
+            }
             Stmt::Return => {
                 let text = if self.empty(&self.scope().locals[0].clone()) {
                     "return;".into()
