@@ -140,6 +140,12 @@ pub fn foreign(f: &Function, signature: &str, names: &[String], symbol: &str, si
     if kinds.is_empty() {
         kinds.push("void".into());
     }
+    // a file is opened by Linux's flags, which os.c knows; its mode, where it has none, is 0
+    let symbol = if symbol == "open" { "rattle_open" } else { symbol };
+    if symbol == "rattle_open" && args.len() == 2 {
+        kinds.push("uint32_t".into());
+        args.push("0u".into());
+    }
     // what the kit's own library of C defines is declared here and defined in os.c; the rest is POSIX's
     let declared = if symbol.starts_with("rattle_") { format!("{kind}{symbol}({});\n\n", kinds.join(", ")) } else { String::new() };
     let symbol = if symbol == "__xpg_strerror_r" { "strerror_r" } else { symbol };

@@ -181,7 +181,11 @@ fn initial(types: &Types, constant: &Constant, t: &Ty, name: &str, whole: &Ty) -
         }
         let all: Vec<String> =
             parts.iter().zip(wanted).filter(|(_, w)| !types.empty(w)).map(|(p, w)| initial(types, p, w, name, whole)).collect();
-        if all.is_empty() { "0".into() } else { all.join(", ") }
+        if all.is_empty() {
+            "0".into()
+        } else {
+            all.join(", ")
+        }
     };
     match (constant, t) {
         (Constant::Int(_, n), _) if *n > i64::MAX as u64 => format!("{n}ull"),
@@ -191,7 +195,9 @@ fn initial(types: &Types, constant: &Constant, t: &Ty, name: &str, whole: &Ty) -
         (Constant::Parts(parts), Ty::Array(of, n)) => {
             format!("{{{{{}}}}}", joined(parts, &vec![(**of).clone(); *n as usize]))
         }
-        (Constant::Repeat(one, n), Ty::Array(of, _)) => format!("{{{{{}}}}}", joined(&vec![(**one).clone(); *n as usize], &vec![(**of).clone(); *n as usize])),
+        (Constant::Repeat(one, n), Ty::Array(of, _)) => {
+            format!("{{{{{}}}}}", joined(&vec![(**one).clone(); *n as usize], &vec![(**of).clone(); *n as usize]))
+        }
         (Constant::Parts(parts), Ty::Slice(..)) => format!("{{{}}}", joined(parts, &[t.pointer(), Ty::Int(64)])),
         (Constant::Parts(parts), Ty::Named(symbol)) => match types.shape(symbol) {
             Shape::Fields(fields) => format!("{{{}}}", joined(parts, fields)),
@@ -261,6 +267,10 @@ fn translate() {
         out.bodies += &exported(&out.types, symbol, &p.functions[symbol], prototype);
     }
     if header.is_none() {
+        // what main answers would tell how the program ends
+        if !out.types.empty(&p.functions[&p.main].locals[0]) {
+            fail::<()>("a main that answers something", &p.main)
+        }
         out.bodies += &main_of(&p.main, reached.contains("os::c::rattle_arg"));
     }
 
