@@ -1,4 +1,6 @@
 // What a check answers: that it accepts, or the number and place of document 01's table of refusals.
+#![tactic(auto)]
+
 ghost use Rattle.std.specs.Prelude.{◌≡◌};
 ghost use Rattle.answer.specs.Answer.{◌then◌, refuse};
 ghost use Rattle.answer.specs.Judge.{verdict_of};

@@ -1,5 +1,7 @@
 // One book for the rooms: its own test, and the part of it that holds a room's card. Document 02, order 3.
 // None of the public functions asks anything of its caller.
+#![tactic(auto)]
+
 ghost use Rattle.std.specs.Prelude.{◌≡◌, ◌≤◌};
 ghost use Rattle.answer.specs.Answer.{refused, given, ◌then◌};
 ghost use Rattle.answer.specs.Judge.{verdict_of};

@@ -2,7 +2,7 @@
 -- Assumes nothing.
 use Prim.Native.Nat.{ℕ, ◌+◌, ◌-◌, ◌≤◌, ◌<◌}
 use mathlib.Core.Path.{◌≡◌, ap, sym, ◌∙◌}
-use mathlib.Core.Bool.{or_true}
+use mathlib.Core.Bool.{or-true}
 use mathlib.Core.List.{List, ◌++◌}
 use native.Mathlib.Omega.{arith}
 use lib.ListN.{length, drop}
@@ -40,7 +40,7 @@ module _ (d : Entry) (lent : ℕ) (es : List Entry) where
 
   pub over_the_buffer : lent < size (put_in d es) → made d lent es ≡ refused 21 0
   unfolding made refuse ◌then◌
-  over_the_buffer h = rw (lt-ltb lent (size (put_in d es)) h, or_true)
+  over_the_buffer h = rw (lt-ltb lent (size (put_in d es)) h, or-true)
 
   pub fits : size (put_in d es) ≤ most → size (put_in d es) ≤ lent → made d lent es ≡ given (put_in d es)
   unfolding made refuse ◌then◌

@@ -1,4 +1,6 @@
 // A card put into a book for a room, or in place of the one that is there. Document 02, order 3. What a user calls asks nothing of its caller.
+#![tactic(auto)]
+
 ghost use Rattle.std.specs.Prelude.{◌≡◌, ◌+◌, ◌≤◌, length};
 ghost use Rattle.std.proofs.lemmas.List.Edits.{sets};
 ghost use Rattle.answer.specs.Answer.{given};

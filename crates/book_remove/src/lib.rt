@@ -1,5 +1,7 @@
 // A room taken out of a book: the records behind it move up, the closing record with them. Document 02, order 11.
 // What a user calls asks nothing of its caller.
+#![tactic(auto)]
+
 ghost use Rattle.std.specs.Prelude.{◌≡◌};
 ghost use Rattle.book_put.specs.Put.{Puts};
 ghost use Rattle.book_remove.specs.Remove.{remove};

@@ -1,5 +1,7 @@
 // What is done with a card's bytes of either kind: tested, read into lent lists, and read off at a minute.
 // Document 01, the orders of "Numbers of refusal". None of the public functions asks anything of its caller.
+#![tactic(auto)]
+
 ghost use Rattle.std.specs.Prelude.{◌≡◌};
 ghost use Rattle.answer.specs.Answer.{accepted};
 ghost use Rattle.answer.specs.Judge.{verdict_of};

@@ -1,4 +1,6 @@
 // Which record of a card is due where, and 14 where it is not: document 01, "Card bytes" and "Numbers of refusal".
+#![tactic(auto)]
+
 ghost use Rattle.std.specs.Prelude.{◌≡◌, ◌^◌, ◌<◌};
 ghost use Rattle.answer.specs.Answer.{each};
 ghost use Rattle.answer.specs.Judge.{verdict_of};

@@ -1,4 +1,6 @@
 // What the lister prints of a card's bytes: a line for each knot, or the refusal. Document 01, "Two programs". A card has no faults.
+#![tactic(auto)]
+
 ghost use Rattle.std.specs.Prelude.{◌≡◌, ◌≤◌, length};
 ghost use Rattle.answer.specs.Answer.{number, place};
 ghost use Rattle.decimal.specs.Put.{Put};

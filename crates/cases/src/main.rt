@@ -1,5 +1,7 @@
 // Asks the library the questions of tests/cases/questions.txt, which come as records on standard input (tests/cases/records), and prints a line for each answer.
 // The stored output is what the independent reference answers to the same file. A new kind of question is a function and an arm of `ask`.
+#![tactic(auto)]
+
 mod ask;
 mod lay;
 mod print;

@@ -4,7 +4,7 @@
 use Prim.Native.Nat.{ℕ, zero, suc, ◌+◌, ◌-◌, ◌*◌, ◌≤◌, ◌<◌}
 use mathlib.Core.Path.{◌≡◌, sym, ◌∙◌, ap}
 use mathlib.Core.List.{List, [], ◌∷◌}
-use native.Mathlib.Nat.{mul_comm, mul_left_comm, mul-add, mul-le-mul_left, le_of_mul_le_mul_right}
+use native.Mathlib.Nat.{mul_comm, mul_left_comm, mul-add, mul-le-mul_left, le_of_mul-le-mul_right}
 use native.Mathlib.Omega.{arith}
 use lib.IntN.{ℤ, pos, nat_abs, ◌+ℤ◌, ◌-ℤ◌, ◌*ℤ◌}
 use lib.ListN.{length}
@@ -32,7 +32,7 @@ sum_step t x b x' c s n e h k l = omega (
 
 -- what is left of the scale d bounds the next unknown
 row_step : (t b x d s z z' : ℕ) → 0 < x → x * z' ≤ d * s + b * z → s + t * b ≤ t * x → z ≤ t * d → z' ≤ t * d
-row_step t b x d s z z' p e h k = le_of_mul_le_mul_right {k = x} (omega (
+row_step t b x d s z z' p e h k = le_of_mul-le-mul_right {k = x} (omega (
   arith,
   mul-le-mul_left d h,
   mul-add d s (t * b),

@@ -1,5 +1,7 @@
 // Document 001's Table 1: the whole numbers that the unknowns of the pre-heater's cubic are over. Document 02,
 // order 10: "the table checked against its rule". What is true of the unknowns is in proofs/.
+#![tactic(auto)]
+
 ghost use Rattle.std.specs.Prelude.{◌≡◌, ◌+◌, ◌≤◌, pos};
 ghost use Rattle.cubic.specs.Cubic.{most_values, a};
 

@@ -4,7 +4,7 @@
 use mathlib.Core.Path.{◌≡◌, sym, ap, ◌∙◌, subst}
 use mathlib.Core.List.{List, [], ◌∷◌}
 use Prim.Native.Nat.{ℕ, ◌+◌, ◌-◌, ◌*◌, ◌≤◌, ◌<◌}
-use native.Mathlib.Nat.{mul_assoc, mul_comm, add-mul, le_of_mul_le_mul_right}
+use native.Mathlib.Nat.{mul_assoc, mul_comm, add-mul, le_of_mul-le-mul_right}
 use native.Mathlib.Omega.{arith}
 use lib.IntN.{ℤ, pos, nat_abs, ◌+ℤ◌, ◌*ℤ◌, ◌-ℤ◌, +ℤ_idr, +ℤ_invr, *ℤ-zero}
 use Rattle.whole.proofs.Solve.{E, var, ◌:+◌, ◌:-◌, ◌:*◌, #, ring, at as the, val}
@@ -91,7 +91,7 @@ module _ (q n : ℕ) (q>0 : 0 < q) (G P : ℕ → ℕ) (y⁻ y y⁺ s⁻ c⁻ s 
 
   pub near_jump : (o : Order) → amount (equating (λ i. pos (G i)) (λ i. pos (P i)) o s⁻ c⁻ s c s⁺ c⁺) ≡ amount (equalling (λ i. pos (G i)) (λ i. pos (P i)) o (nat q) y⁻ y y⁺) →
       2 * nat_abs (amount (jumping (λ i. pos (G i)) (λ i. pos (P i)) o (rising y y⁺) (rising y⁻ y) m⁻ M⁻ m M m⁺ M⁺)) ≤ slack n o G + slack n o P
-  near_jump o eq = le_of_mul_le_mul_right (covered o (nat_abs jump) (subst (λ k. k ≤ bound bounds (stray_e o)) (sym twice) (spread o))) q>0
+  near_jump o eq = le_of_mul-le-mul_right (covered o (nat_abs jump) (subst (λ k. k ≤ bound bounds (stray_e o)) (sym twice) (spread o))) q>0
     where
       jump : ℤ
       jump = amount (jumping (λ i. pos (G i)) (λ i. pos (P i)) o (rising y y⁺) (rising y⁻ y) m⁻ M⁻ m M m⁺ M⁺)

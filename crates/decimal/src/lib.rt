@@ -1,5 +1,7 @@
 // Numbers of up to 64 bits in decimal, and words, written into a lent buffer. Each function here asks for the room of what it writes, and answers the offset
 // behind it.
+#![tactic(auto)]
+
 ghost use Rattle.std.specs.Prelude.{◌≡◌, ◌+◌, ◌≤◌, ◌<◌, [], ◌∷◌, ◌++◌, nat_abs, length};
 ghost use Rattle.decimal.specs.Put.{Put};
 ghost use Rattle.decimal.specs.Decimal.{decimal, signed, field};

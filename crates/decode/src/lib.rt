@@ -1,4 +1,6 @@
 // The card that bytes hold, decoded once, and its numbers over the fronts of lent lists: document 01, "Card bytes".
+#![tactic(auto)]
+
 ghost use Rattle.std.specs.Prelude.{◌≡◌, ◌≤◌, ◌++◌, length, drop};
 ghost use Rattle.card_bytes.specs.Held.{start, count_at};
 ghost use Rattle.decode.specs.Decoded.{most, held, none, decoded, Full};

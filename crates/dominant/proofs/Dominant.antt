@@ -5,7 +5,7 @@
 use mathlib.Core.Path.{◌≡◌, refl, ap, ◌∙◌}
 use mathlib.Core.List.{[], ◌∷◌}
 use Prim.Native.Nat.{ℕ, zero, suc, ◌+◌, ◌-◌, ◌*◌, min, ◌≤◌, ◌<◌}
-use native.Mathlib.Nat.{mul_comm, mul-le-mul_left, le_of_mul_le_mul_right, le_trans, le_refl, lt_of_not-le}
+use native.Mathlib.Nat.{mul_comm, mul-le-mul_left, le_of_mul-le-mul_right, le_trans, le_refl, lt_of_not-le}
 use native.Mathlib.Decide.{dec_le}
 use native.Mathlib.Omega.{arith}
 use lib.IntN.{ℤ, pos, nat_abs, ◌+ℤ◌, ◌-ℤ◌, ◌*ℤ◌, zero-*ℤ}
@@ -48,7 +48,7 @@ left_side g p x⁻ x x⁺ = 3 · (pos p +ℤ pos g) *ℤ x -ℤ pos p *ℤ x⁻ 
 
 -- a number that is as great as its neighbours is at most half of what its left side is bounded by
 dominant : (B g p D : ℕ) (x⁻ x x⁺ : ℤ) → 0 < g + p → nat_abs x⁻ ≤ D → nat_abs x ≡ D → nat_abs x⁺ ≤ D → nat_abs (left_side g p x⁻ x x⁺) ≤ B * (g + p) → 2 * D ≤ B
-dominant B g p D x⁻ x x⁺ some h⁻ h h⁺ small = le_of_mul_le_mul_right scaled some
+dominant B g p D x⁻ x x⁺ some h⁻ h h⁺ small = le_of_mul-le-mul_right scaled some
   where
     parts : 3 · (pos p +ℤ pos g) *ℤ x ≡ left_side g p x⁻ x x⁺ +ℤ (pos p *ℤ x⁻ +ℤ pos g *ℤ x⁺)
     parts =

@@ -1,1 +1,2 @@
 // Laws only (proofs/): equations whose middle number outweighs its neighbours, bounded and solved.
+#![tactic(auto)]

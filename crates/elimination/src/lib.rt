@@ -1,5 +1,7 @@
 // One knot of the fit's elimination in binary64: what the knot before leaves of its equations, their solution, the way back, and the tests of number 8. It follows
 // document 01's "The elimination, rounded once per operation", points 1 to 3, in the order written there.
+#![tactic(auto)]
+
 ghost use Rattle.std.specs.Prelude.{◌≡◌, cond};
 ghost use Rattle.rows.specs.Equations.{zeros};
 ghost use Rattle.elimination.specs.Elimination.{◌times◌, ◌on◌, ◌less◌, ◌minus◌, reduced, system, det, solution, columns, state, zero_pair, zero_state, backward};

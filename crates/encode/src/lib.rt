@@ -1,5 +1,7 @@
 // The bytes of a card of any kind, record by record, at the front of a buffer that has room for them:
 // document 01, "Card bytes".
+#![tactic(auto)]
+
 ghost use Rattle.std.specs.Prelude.{◌≡◌, ◌+◌, ◌^◌, ◌≤◌, ◌<◌, length};
 ghost use Rattle.std.proofs.lemmas.List.Edits.{sets};
 ghost use Rattle.curve.specs.Steps.{size};

@@ -1,4 +1,6 @@
 // The ends of a fit: their codes, and the test of the numbers given for them. Document 01, "The curve and its card" and number 7.
+#![tactic(auto)]
+
 ghost use Rattle.std.specs.Prelude.{◌≡◌, ◌^◌, ◌≤◌, ◌<◌};
 ghost use Rattle.answer.specs.Judge.{verdict_of};
 ghost use Rattle.rows.specs.Equations.{code};

@@ -1,6 +1,8 @@
 // Why did it say that: what a reading off a card is made of, and which jump a card was refused for. Document
 // 02, order 9. The numbers are those that the reading and the jump test take; the card is tested and decoded
 // once. The public function asks nothing of its caller.
+#![tactic(auto)]
+
 ghost use Rattle.std.specs.Prelude.{◌≡◌, ℕ, ◌≤◌, ◌<◌, ◌^◌, pos, nat_abs, length};
 ghost use Rattle.answer.specs.Answer.{accepted};
 ghost use Rattle.curve.specs.Kind as Curve;

@@ -1,5 +1,7 @@
 // Document 01's fit: it tests what it is handed, eliminates, works the numbers out in card units beside the lent lists, tests them, and only then
 // writes them. The order of the tests is that of "Numbers of refusal".
+#![tactic(auto)]
+
 ghost use Rattle.std.specs.Prelude.{◌≡◌, ◌≤◌, length};
 ghost use Rattle.answer.specs.Answer.{accepted, ◌then◌, each};
 ghost use Rattle.answer.specs.Judge.{verdict_of};

@@ -1,4 +1,6 @@
 // What the fitter prints of a sheet: the listing of its fit without ends. Document 01, "Two programs", and document 02, orders 4 and 6.
+#![tactic(auto)]
+
 ghost use Rattle.std.specs.Prelude.{◌≡◌, ◌+◌, ◌*◌, ◌^◌, ◌≤◌, ◌<◌, length};
 ghost use Rattle.decimal.specs.Put.{Put};
 ghost use Rattle.listing.specs.Text.{longest_line};

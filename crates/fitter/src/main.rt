@@ -1,4 +1,6 @@
 // The fitter: knots and logs as records on standard input, the listing of their fit on standard output. Document 01, "Two programs", and document 02, order 4.
+#![tactic(auto)]
+
 ghost use Rattle.std.specs.Prelude.{◌≤◌, length};
 ghost use Rattle.sheet.specs.Sheet.{OfAnInput};
 ghost use Rattle.sheet.specs.Step.{Near};

@@ -3,7 +3,7 @@
 use mathlib.Core.Path.{◌≡◌, ◌∙◌, ap}
 use mathlib.Core.List.{[], ◌∷◌}
 use Prim.Native.Nat.{ℕ, ◌+◌, ◌-◌, ◌*◌, ◌≤◌, ◌<◌, ◌^◌}
-use native.Mathlib.Nat.{mul_comm, mul_assoc, mul_left_comm, mul-le-mul, mul-le-mul_left, one-le-pow, pow-suc, le_of_mul_le_mul_right}
+use native.Mathlib.Nat.{mul_comm, mul_assoc, mul_left_comm, mul-le-mul, mul-le-mul_left, one-le-pow, pow-suc, le_of_mul-le-mul_right}
 use native.Mathlib.Omega.{arith}
 use lib.IntN.{ℤ, nat_abs}
 use Rattle.whole.proofs.Order.{linear, abs_is}
@@ -26,7 +26,7 @@ module _ {L : Limits} {h : ℕ} (w : 1 ≤ h) (g : GapFits L h) where
   unfolding most
   ordinates =
       let p = h ^ 4 in
-      le_of_mul_le_mul_right {k = p}
+      le_of_mul-le-mul_right {k = p}
       (omega (arith, (g.quantities Slope).read, pow-suc h 4, mul_left_comm L.ordinates 160 p, mul-le-mul_left p g.narrow))
       (one-le-pow 4 h w)
 
@@ -35,7 +35,7 @@ module _ {L : Limits} {h : ℕ} (w : 1 ≤ h) (g : GapFits L h) where
   unfolding most
   curvatures =
       let p = h * h * h ^ 3 in
-      le_of_mul_le_mul_right {k = p} (omega (arith, (g.quantities Curvature).read, left, right)) (mul-le-mul (mul-le-mul w w) (one-le-pow 3 h w))
+      le_of_mul-le-mul_right {k = p} (omega (arith, (g.quantities Curvature).read, left, right)) (mul-le-mul (mul-le-mul w w) (one-le-pow 3 h w))
     where
       left : h * h * (L.curvatures * (96 * h ^ 3)) ≡ 96 * (L.curvatures * (h * h * h ^ 3))
       left = ap (λ z. h * h * z) (mul_left_comm L.curvatures 96 (h ^ 3)) ∙ mul_left_comm (h * h) 96 (L.curvatures * h ^ 3) ∙ ap (λ z. 96 * z) (mul_left_comm (h * h) L.curvatures (h ^ 3))

@@ -1,6 +1,8 @@
 // The curve of one gap, with what the gap alone decides worked out once, so that a minute of it takes few
 // operations. Document 01, "The exact curve": N is σ³ P(τ) + τ³ P'(σ), where P and P' have degree 2, so that
 // either knot gives three numbers.
+#![tactic(auto)]
+
 ghost use Rattle.std.specs.Prelude.{◌≡◌, ◌<◌, ◌^◌, nat_abs};
 ghost use Rattle.whole.specs.Whole.{nearest};
 ghost use Rattle.gaps.specs.Limits.{InGap, Keeps};

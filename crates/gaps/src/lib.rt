@@ -1,4 +1,6 @@
 // A knot at an end of a gap: what the arithmetic of one gap and that of two gaps share. Document 01, "The curve and its card".
+#![tactic(auto)]
+
 ghost use Rattle.std.specs.Prelude.{◌≡◌, ◌<◌, ◌^◌, nat_abs};
 ghost use Rattle.gaps.specs.Knots.{mirror};
 

@@ -1,4 +1,6 @@
 // Holes in a sheet, and the straight line that fills them: document 02, order 1. Nothing lent is written here.
+#![tactic(auto)]
+
 ghost use Rattle.std.specs.Prelude.{◌≡◌, cond, ◌≤◌, ◌<◌, ◌^◌, pos, nat_abs, ◌+ℤ◌, ◌*ℤ◌, length, replicate};
 ghost use Rattle.answer.specs.Answer.{each, refuse};
 ghost use Rattle.answer.specs.Judge.{verdict_of};

@@ -1,5 +1,7 @@
 // The jump of the third or fourth derivative at a knot between two gaps, and its allowance, both as numerators over the product of the gaps' powers. Document 01,
 // "The jump test". Each function asks that the numbers keep within limits for which a computed test shows that nothing passes 64 bits; none names a limit.
+#![tactic(auto)]
+
 ghost use Rattle.std.specs.Prelude.{◌≡◌, ◌+◌, ◌*◌, ◌≤◌, ◌<◌, ◌^◌, pos, nat_abs, ◌+ℤ◌, ◌*ℤ◌};
 ghost use Rattle.curve.specs.Curve.{degree};
 ghost use Rattle.curve.specs.Jump.{clear};

@@ -1,6 +1,8 @@
 // The boundary to C and Rust: one function for each thing that a controller or a program asks, under a fixed name. A slice passes as a pointer and its length;
 // an answer is a struct by value whose first fields are document 01's number and place, with zeros behind a refusal. None asks anything of its caller. What is promised as
 // `typed` is only what a list's type says of its elements, so that theorems on the promises can use it.
+#![tactic(auto)]
+
 ghost use Rattle.std.specs.Prelude.{◌≡◌, length};
 ghost use Rattle.curve.specs.Log.{mean};
 ghost use Rattle.little_endian.specs.Numbers.{Bytes};

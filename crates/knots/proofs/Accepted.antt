@@ -5,7 +5,7 @@ use mathlib.Core.Logic.{◌⊎◌, ⊎_elim}
 use mathlib.Core.Bool.{false}
 use mathlib.Core.List.{List}
 use Prim.Native.Nat.{ℕ, zero, suc, ◌+◌, ◌-◌, ◌≤◌, ◌<◌, min}
-use native.Mathlib.Nat.{le_trans, le-max_left, le-max_right, max_le, sub_self, eq-or-lt_of_le}
+use native.Mathlib.Nat.{le_trans, le-max_left, le-max_right, max-le, sub_self, eq-or-lt_of_le}
 use native.Mathlib.Numerals.{add-one}
 use native.Mathlib.Omega.{arith}
 use borrow.Author.Tests.{ltb-false, leb-false, lt-ltb}
@@ -114,7 +114,7 @@ module _ {K : Kind} {xs : List ℕ} {ys : List ℤ} (s : Stood K xs ys) where
 
   pub wider_narrow : (i : ℕ) → i < length xs → wider_gap xs i ≤ K.widest_gap
   unfolding wider_gap
-  wider_narrow i l = max_le (s.left_narrow i l) (right_narrow i l)
+  wider_narrow i l = max-le (s.left_narrow i l) (right_narrow i l)
 
 -- ---- curvatures by a single gap
 

@@ -1,5 +1,7 @@
 // The checks of document 01 on lent lists that need no arithmetic of the curve: "Numbers of refusal", each a step of an order. The limits are "constants of the kind of
 // card they belong to".
+#![tactic(auto)]
+
 ghost use Rattle.std.specs.Prelude.{◌≡◌, List, ℕ, ◌^◌, ◌<◌, length, get_or, ℤ, pos, nat_abs, ◌≤ℤ◌};
 ghost use Rattle.whole.specs.Whole.{beyond};
 ghost use Rattle.answer.specs.Answer.{◌then◌, each};

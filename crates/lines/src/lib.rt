@@ -2,6 +2,8 @@
 // moved to the right side, what the knot before leaves of it, its solution and the way back. It follows
 // document 02's "Values with measured slopes", in the order written there; the tests of number 8 are
 // `elimination`'s.
+#![tactic(auto)]
+
 ghost use Rattle.std.specs.Prelude.{◌≡◌};
 ghost use Rattle.lines.specs.Lines.{hundredths, line, reduced, single, line_solved, line_eliminated, line_back};
 

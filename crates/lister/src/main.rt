@@ -1,4 +1,5 @@
 // The lister: a card on standard input, its listing on standard output. Document 01, "Two programs".
+#![tactic(auto)]
 
 // A card of 64 knots has 1,038 bytes, and what follows a card is told by its first byte, so a buffer of 4,096 bytes holds all that counts.
 fn main() {

@@ -1,5 +1,7 @@
 // The text that both programs print, written into a lent buffer: document 01, "Two programs", and document 02, order 4. Each function here asks for the room of what it writes, and
 // answers the offset behind it.
+#![tactic(auto)]
+
 ghost use Rattle.std.specs.Prelude.{◌≡◌, ◌+◌, ◌*◌, ◌^◌, ◌≤◌, ◌<◌, length, get_or};
 ghost use Rattle.decimal.specs.Put.{Put};
 ghost use Rattle.listing.specs.Text.{four_fields, knot_line, counted_line, no_log, listed_line, ok_line, refused_line, line_of, listing, longest_line, Lines};

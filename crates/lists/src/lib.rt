@@ -1,5 +1,7 @@
 // What stands on lent lists and needs the curve's arithmetic: 10 knot by knot, the orders of 9 and 10, and the reading at a minute.
 // Document 01, "Numbers of refusal" and "The exact curve". The lists are minutes, ordinates, slopes and curvatures.
+#![tactic(auto)]
+
 ghost use Rattle.std.specs.Prelude.{◌≡◌, ◌||◌, ℕ, ◌+◌, ◌<◌, ◌≤◌, ◌^◌, length, pos};
 ghost use Rattle.answer.specs.Answer.{accepted, refused, given, refuse, each};
 ghost use Rattle.answer.specs.Judge.{verdict_of, numbered};

@@ -1,4 +1,6 @@
 // Little-endian numbers at an offset of a list of bytes: document 01, "Card bytes". Each function asks for an offset at which the number lies inside the list.
+#![tactic(auto)]
+
 ghost use Rattle.std.specs.Prelude.{◌≡◌, ◌+◌, ◌≤◌, length};
 ghost use Rattle.std.proofs.lemmas.List.Edits.{sets};
 ghost use Rattle.std.specs.Int.{w16, w32};

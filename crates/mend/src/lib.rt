@@ -1,5 +1,7 @@
 // Mending a sheet with holes: document 02, order 1. Each hole gets the straight line between the nearest sound knots, and the mended sheet is fitted between free ends before anything lent is
 // written. The changes are answered by value; `fill` puts them into a lent list.
+#![tactic(auto)]
+
 ghost use Rattle.std.specs.Prelude.{◌≡◌, cond, [], ◌≤◌, ◌<◌, length};
 ghost use Rattle.answer.specs.Answer.{◌then◌};
 ghost use Rattle.answer.specs.Judge.{verdict_of};

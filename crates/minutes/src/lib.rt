@@ -1,5 +1,7 @@
 // What the minutes of a card say by themselves: a knot's neighbours, the gaps beside it, and the gap of a minute with the looks that it takes.
 // Document 01, "The curve and its card" and "The exact curve"; document 02, order 7.
+#![tactic(auto)]
+
 ghost use Rattle.std.specs.Prelude.{◌≡◌, ◌+◌, ◌-◌, ◌<◌, ◌^◌, min, length};
 ghost use Rattle.answer.specs.Judge.{verdict_of};
 ghost use Rattle.curve.specs.Card.{back};

@@ -1,5 +1,7 @@
 // The pairs of the knots in card units, worked out beside the lent lists, and written to a lent list once they are tested.
 // Document 01, "The elimination", point 4.
+#![tactic(auto)]
+
 ghost use Rattle.std.specs.Prelude.{◌≡◌, ◌≤◌, length, take};
 ghost use Rattle.passes.specs.Sheet.{most};
 ghost use Rattle.numbers.specs.Numbers.{AllFinite, scaled};

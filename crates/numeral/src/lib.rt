@@ -1,5 +1,7 @@
 // A word as a whole number in decimal: a minute, an ordinate, a slope, a number among a program's arguments.
 // Any bytes are answered.
+#![tactic(auto)]
+
 ghost use Rattle.std.specs.Prelude.{◌≡◌, true};
 ghost use Rattle.decimal.specs.Decimal.{value};
 ghost use Rattle.numeral.specs.Number.{plain, starts, all_digits, padded, at_most, natural, above, below, signed_number, narrowed, lone_minus, ordinate};

@@ -1,6 +1,8 @@
 // A card's bytes, opened: judged in the card's order as the kind of card that their head names, and decoded
 // once for whatever is done with them. Document 01, "Card bytes" and "Numbers of refusal"; document 02, order
 // 8.
+#![tactic(auto)]
+
 ghost use Rattle.std.specs.Prelude.{◌≡◌, ◌≤◌, length};
 ghost use Rattle.answer.specs.Judge.{verdict_of};
 ghost use Rattle.curve.specs.Orders.{sound};

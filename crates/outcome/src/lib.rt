@@ -1,1 +1,2 @@
 // Laws only (proofs/): the promise of every public function leaves one outcome.
+#![tactic(auto)]

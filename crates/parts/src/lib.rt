@@ -1,6 +1,8 @@
 // The numerators of one gap, part by part: what the ordinate, the slope and the curvature of either knot add to the curve, its slope or its curvature, t minutes
 // into a gap of h. Document 01, "The exact curve". Each function asks that the numbers keep within limits for which a computed test shows that nothing passes
 // 64 bits; none names a limit.
+#![tactic(auto)]
+
 ghost use Rattle.std.specs.Prelude.{◌≡◌, ◌*◌, ◌<◌, ◌^◌, nat_abs};
 ghost use Rattle.curve.specs.Formula.{worth, ∂^};
 ghost use Rattle.gaps.specs.Limits.{InGap, Keeps, far};

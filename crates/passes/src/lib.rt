@@ -2,6 +2,8 @@
 // rounded once per operation" and document 02's "Values with measured slopes": they give each knot's slope
 // and curvature, or number 8 at the knot where it is first met. Where the slopes are given, the curvatures
 // alone are solved for, and zeros stand for the slopes.
+#![tactic(auto)]
+
 ghost use Rattle.std.specs.Prelude.{◌≡◌, ◌+◌, ◌≤◌, ◌<◌, pos, length, get_or};
 ghost use Rattle.lines.specs.Lines.{hundredths};
 ghost use Rattle.passes.specs.Sheet.{most, Rising, end_of, knot_between, right_gap, slope_before, slope_after, line_between};

@@ -1,6 +1,8 @@
 // The pre-heater's set value: the natural cubic through a table of equal steps, at a whole count of parts from
 // its first value. Document 02, order 10; document 001, in whole numbers. The public function asks nothing of
 // its caller.
+#![tactic(auto)]
+
 ghost use Rattle.std.specs.Prelude.{◌≡◌, ◌-◌, ◌*◌, ◌≤◌, ◌<◌, nat_abs, ◌-ℤ◌, ◌*ℤ◌, length};
 ghost use Rattle.whole.specs.Whole.{nearest};
 ghost use Rattle.answer.specs.Answer.{refused, ◌then◌};

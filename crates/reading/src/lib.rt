@@ -1,4 +1,6 @@
 // What is read off the curve of one gap at a minute, rounded to nearest, ties to even. Document 01, "The exact curve".
+#![tactic(auto)]
+
 ghost use Rattle.std.specs.Prelude.{◌≡◌, ◌*◌, ◌^◌, nat_abs};
 ghost use Rattle.whole.specs.Whole.{nearest};
 ghost use Rattle.curve.specs.Formula.{worth, ∂^};

@@ -1,4 +1,6 @@
 // Records, and the cursor that finds one: document 01, "Card bytes". Any offset and any bytes are answered.
+#![tactic(auto)]
+
 ghost use Rattle.std.specs.Prelude.{◌≡◌};
 ghost use Rattle.record.specs.Record.{is_at, found_of, record_at};
 

@@ -1,7 +1,7 @@
 -- A number of an accepted card is fit to be given for an end, and its slopes to be given, so that of such a
 -- card of either kind the fresh fit refuses with nothing but 8, 9 and 10. Assumes nothing.
 use Prim.Native.Nat.{ℕ, suc, ◌+◌, ◌-◌, ◌*◌, ◌^◌, ◌≤◌, ◌<◌}
-use native.Mathlib.Nat.{mul_right_comm, mul-one, mul_assoc, mul_comm, lt_of_lt_of_le, mul-le-mul_right, le_of_mul_le_mul_right}
+use native.Mathlib.Nat.{mul_right_comm, mul-one, mul_assoc, mul_comm, lt_of_lt_of_le, mul-le-mul_right, le_of_mul-le-mul_right}
 use native.Mathlib.Omega.{arith}
 use mathlib.Core.Path.{◌≡◌, refl, sym, ap, ap₂, subst, ◌∙◌}
 use mathlib.Core.Bool.{Bool, true, false, ◌||◌, cond}
@@ -42,7 +42,7 @@ within_fit (fin t m e) s a c p h v = sides t
   where
     small : m * up e ≤ 256 * down e
     small =
-        le_of_mul_le_mul_right {m = m * up e} {n = 256 * down e} {k = c}
+        le_of_mul-le-mul_right {m = m * up e} {n = 256 * down e} {k = c}
         (subst (λ x. x ≤ 256 * down e * c) (sym v.1) (subst (λ x. a * down e ≤ x) (mul_right_comm 256 c (down e)) (mul-le-mul_right (down e) h))) p
 
     sides : (t : Bool) → unfit (fin t m e) ≡ false

@@ -2,6 +2,8 @@
 // numbers that were typed over on a card and still pass the jump test. Where the card's slopes were given,
 // they are given back, and its curvatures fitted anew from them. The order of the tests is that of the
 // reader, "Card into lent lists", and then the fit's own. Nothing is asked of the caller.
+#![tactic(auto)]
+
 ghost use Rattle.std.specs.Prelude.{◌≡◌, ◌<◌, ◌≤◌, length};
 ghost use Rattle.std.proofs.Math.IntN.{ℤ_discrete};
 ghost use Rattle.knots.specs.Kinds.{kind_of};

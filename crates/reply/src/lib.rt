@@ -1,4 +1,6 @@
 // What the text of a sheet, with the logs that it names, is answered with: the listing of its fit and the card's bytes, or a complaint; and a sheet with holes, mended before it is fitted. Apart from files.
+#![tactic(auto)]
+
 ghost use Rattle.std.specs.Prelude.{◌≡◌, true, false, cond, [], ◌≤◌, ◌<◌, length, get_or};
 ghost use Rattle.knots.specs.Lent.{lent};
 ghost use Rattle.words.specs.Said.{wrong_line};

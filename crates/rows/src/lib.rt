@@ -1,5 +1,7 @@
 // One knot's equations in binary64: the powers of its gaps, the matrices A, L and R, the right side k, and the rows that an end replaces. It follows document 01's
 // "The equations" and the first paragraph of "The elimination, rounded once per operation", in the order written there.
+#![tactic(auto)]
+
 ghost use Rattle.std.specs.Prelude.{◌≡◌};
 ghost use Rattle.rows.specs.Equations.{one_over, powers, difference, gap, no_gap, row, second, both_given, curvature_given, replaced, equations};
 

@@ -1,6 +1,8 @@
 // Document 02's order 8, "Values with measured slopes": the fit of curvatures alone, by slopes that are given
 // in card units. It tests what it is handed, eliminates, works the curvatures out beside the lent list, tests
 // them, and only then writes them. The slopes are read, and never written.
+#![tactic(auto)]
+
 ghost use Rattle.std.specs.Prelude.{◌≡◌, List, ◌≤◌, ℤ, length, take};
 ghost use Rattle.answer.specs.Answer.{accepted, ◌then◌, each};
 ghost use Rattle.answer.specs.Judge.{verdict_of};

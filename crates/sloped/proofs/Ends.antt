@@ -4,7 +4,7 @@
 use mathlib.Core.Path.{◌≡◌, refl, sym, ap, ap₂, ◌∙◌, subst}
 use mathlib.Core.List.{[], ◌∷◌}
 use Prim.Native.Nat.{ℕ, zero, suc, ◌+◌, ◌-◌, ◌*◌, ◌^◌, min, ◌≤◌, ◌<◌}
-use native.Mathlib.Nat.{sub_self, mul_assoc, mul_comm, mul-one, zero-mul, pow-suc, one-le-pow, mul-le-mul_right, le_of_mul_le_mul_right}
+use native.Mathlib.Nat.{sub_self, mul_assoc, mul_comm, mul-one, zero-mul, pow-suc, one-le-pow, mul-le-mul_right, le_of_mul-le-mul_right}
 use native.Mathlib.Omega.{arith}
 use lib.IntN.{ℤ, pos, nat_abs, neg_ℤ, ◌-ℤ◌, ◌*ℤ◌}
 use Rattle.whole.specs.Whole.{◌·◌}
@@ -45,7 +45,7 @@ module _ (a b : Knot) (wide : 0 < gap a b) where
 
   -- a third of the derivative is a side of the jump test
   bounded : (z side : ℤ) → z *ℤ pos (h ^ 3) ≡ 3 · side *ℤ pos (denominator a b) → nat_abs side ≤ 4 * h ^ 2 → nat_abs z * h ≤ 3 * 4 * denominator a b
-  bounded z side e small = le_of_mul_le_mul_right {k = h ^ 2} scaled (one-le-pow 2 h wide)
+  bounded z side e small = le_of_mul-le-mul_right {k = h ^ 2} scaled (one-le-pow 2 h wide)
     where
       sized : nat_abs z * h ^ 3 ≡ 3 * nat_abs side * denominator a b
       sized = sym (abs_mul z (pos (h ^ 3))) ∙ ap nat_abs e ∙ abs_mul (3 · side) (pos (denominator a b)) ∙ ap (λ k. k * denominator a b) (abs_mul (pos 3) side)

@@ -1,4 +1,6 @@
 // The parts of a text: its lines, what of a line is no comment, and its words. Any bytes are answered.
+#![tactic(auto)]
+
 ghost use Rattle.std.specs.Prelude.{◌≡◌, ◌≤◌, [], length, drop, get_or};
 ghost use Rattle.split.specs.Parts.{marks, stop, until, past, lines};
 

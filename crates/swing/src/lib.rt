@@ -2,6 +2,8 @@
 // ordinates of its two knots. The card is tested and decoded once, and every minute between two knots read
 // once; at a knot the card reads the knot's own ordinate. The public function that takes bytes asks nothing
 // of its caller.
+#![tactic(auto)]
+
 ghost use Rattle.std.specs.Prelude.{◌≡◌, ◌+◌, ◌≤◌, ◌<◌, min, length, ◌-ℤ◌};
 ghost use Rattle.knots.specs.Lent.{lent};
 ghost use Rattle.lists.specs.Lists.{Checked};

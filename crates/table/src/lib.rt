@@ -1,5 +1,7 @@
 // What a card reads at minute after minute: its bytes are tested and decoded once, and each minute is read off what was decoded. Document 01, "The exact curve" and "Numbers of refusal".
 // The public function asks nothing of its caller.
+#![tactic(auto)]
+
 ghost use Rattle.std.specs.Prelude.{◌≡◌, ◌+◌, ◌-◌, ◌≤◌, ◌<◌, ◌^◌, length, get_or};
 ghost use Rattle.answer.specs.Answer.{accepted};
 ghost use Rattle.answer.specs.Judge.{verdict_of};

@@ -1,6 +1,8 @@
 // A sheet as text: a line is a knot, its minute and its ordinate, or in place of the ordinate a hole, or '@'
 // and the name of a log's file; and behind these, on every line or on none, its slope in card units. Any
 // bytes, of any length, are answered.
+#![tactic(auto)]
+
 ghost use Rattle.std.specs.Prelude.{◌≡◌, ◌<◌};
 ghost use Rattle.split.specs.Parts.{words};
 ghost use Rattle.numeral.specs.Number.{natural};

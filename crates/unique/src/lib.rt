@@ -1,1 +1,2 @@
 // Laws only (proofs/): the exact solution of a card is unique.
+#![tactic(auto)]

@@ -1,4 +1,6 @@
 // A binary64 number in card units, from its bits: point 4 of document 01's "The elimination". The rounding is `whole`'s.
+#![tactic(auto)]
+
 ghost use Rattle.std.specs.Prelude.{◌≡◌, true, ◌*◌, ◌^◌, ◌≤◌, ◌<◌, min};
 ghost use Rattle.std.specs.Float.Ieee.Nearest.{closest};
 ghost use Rattle.elimination.specs.Refusal.{is_finite};

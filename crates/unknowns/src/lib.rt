@@ -1,6 +1,8 @@
 // The unknowns of the pre-heater's cubic: one sixth of each second derivative, in whole numbers over an entry
 // of Table 1. Document 02, order 10; document 001. By the recurrence from the first value on, so that no list
 // is lent.
+#![tactic(auto)]
+
 ghost use Rattle.std.specs.Prelude.{◌≡◌, ◌+◌, ◌-◌, ◌<◌, ◌^◌, length};
 ghost use Rattle.answer.specs.Answer.{refused, each};
 ghost use Rattle.answer.specs.Judge.{verdict_of};

@@ -1,5 +1,7 @@
 // A pre-heater's table as text: its values, whole hundredths, one word each and any number of them on a line,
 // and the line of each. Any bytes, of any length, are answered.
+#![tactic(auto)]
+
 ghost use Rattle.std.specs.Prelude.{◌≡◌, ◌<◌};
 ghost use Rattle.split.specs.Parts.{words};
 ghost use Rattle.values.specs.Values.{most, refused, with_value, taken, with_words, values, first_wrong, blamed};

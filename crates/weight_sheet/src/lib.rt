@@ -1,5 +1,7 @@
 // The fitters' weight sheet: what the numbers of a gap's left knot weigh in the value, at each minute of gaps of 15, 30 and 60 minutes. Document 02, order 5.
 // The right knot's weights are those at the same minute, counted from the other side.
+#![tactic(auto)]
+
 mod table;
 
 ghost use Rattle.std.specs.Prelude.{◌≡◌, ◌<◌};

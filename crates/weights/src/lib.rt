@@ -1,4 +1,6 @@
 // What the numbers of a gap's left knot weigh in the curve, in its slope and in its curvature. Document 01, "The exact curve".
+#![tactic(auto)]
+
 ghost use Rattle.std.specs.Prelude.{◌≡◌};
 ghost use Rattle.gaps.specs.Limits.{InGap};
 ghost use Rattle.weights.specs.Weights.{weigh};

@@ -1,5 +1,7 @@
 // What is wrong, in plain words: a sentence for each number of refusal with what to do about it, a sentence for each thing that can be wrong in the text of a sheet or a table,
 // and the lines of standard error that are made of them, or say which knot was mended.
+#![tactic(auto)]
+
 ghost use Rattle.std.specs.Prelude.{◌≡◌, [], ◌+◌, ◌≤◌, length, get_or};
 ghost use Rattle.decimal.specs.Put.{Put};
 ghost use Rattle.split.specs.Parts.{lines};

@@ -7,6 +7,8 @@
 // output, complaints to standard error, and one byte to descriptor 3, since a program of Rattle has no exit
 // status (`tell`). What is proved of the lines is said in the crates that are called; here every function is
 // proved safe and ending.
+#![tactic(auto)]
+
 mod arguments;
 mod books;
 mod cards;

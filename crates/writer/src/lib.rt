@@ -1,5 +1,7 @@
 // The writer of a card's bytes, one for both kinds of card: document 01, "Card bytes", and the writer's order
 // of "Numbers of refusal"; document 02, order 8. It asks nothing of its caller.
+#![tactic(auto)]
+
 ghost use Rattle.std.specs.Prelude.{◌≡◌};
 ghost use Rattle.answer.specs.Judge.{verdict_of};
 ghost use Rattle.curve.specs.Kind.{quintic, sloped};

@@ -1,0 +1,126 @@
+-- `jump_at` meets its contract: the arithmetic of the gaps beside the knot, which the test takes too.
+-- Assumes nothing.
+use mathlib.Core.Path.{◌≡◌, sym, ◌∙◌, ap, subst}
+use Prim.Native.Nat.{ℕ, ◌+◌, ◌-◌, ◌≤◌, ◌<◌, ◌^◌, min}
+use native.Mathlib.Omega.{arith}
+use borrow.Author.Rules.{rules}
+use lib.IntN.{ℤ, pos, nat_abs}
+use lib.ListN.{length}
+use mir.Syntax.{w64}
+use mir.Val.{to_z, of_z}
+use mir.Facts.{to_z-of_z, to_z_pos}
+use Rattle.curve.specs.Card.{back}
+use Rattle.gaps.specs.declared.Knot.{Knot}
+use Rattle.minutes.specs.Gaps.{left_gap, right_gap}
+use Rattle.jumps.specs.declared.Order.{Order}
+use Rattle.jumps.specs.Sides.{jump_of, leeways}
+use Rattle.jumps.specs.Limits.{Beside, Allowed, Tried}
+use Rattle.jumps.proofs.Comparing.{h_gap, q_gap, jump_fits}
+use Rattle.lists.specs.Lists.{numbers_at, square_of}
+use Rattle.lists.proofs.Settled.{settled_knot, jump_there, allowed_there}
+use Rattle.explain.specs.Explain.{jump_at}
+use Rattle.explain.proofs.jump_at.Goals as goal
+use Rattle.explain.proofs.jump_at.Goals.{After-jump, After-right_gap-h, After-squares, Start}
+
+back_below : (i : ℕ) → back i ≤ i
+unfolding back
+back_below i = omega arith
+
+-- ---- the numbers that `jump` and `allowance` are handed
+
+record Handed (q h q' h' : ℤ) (b k a b' k' a' : Knot) : Type 0 where
+  q_is : q ≡ q'
+  h_is : h ≡ h'
+  before_is : b ≡ b'
+  here_is : k ≡ k'
+  after_is : a ≡ a'
+
+module _ {q h q' h' : ℤ} {b k a b' k' a' : Knot} (e : Handed q h q' h' b k a b' k' a') where
+  beside_same : Beside q' h' b' k' a' → Beside q h b k a
+  beside_same w = rw (e.q-is, e.h_is, e.before-is, e.here-is, e.after_is) w
+
+  jump_same : (o : Order) → jump_of o q h b k a ≡ jump_of o q' h' b' k' a'
+  jump_same o = rw (e.q-is, e.h_is, e.before-is, e.here-is, e.after_is)
+
+  allowed_same : {s s' : ℤ} → s ≡ s' → nat_abs s' ≤ 2 ^ 8 → Beside q' h' b' k' a' → Allowed s q h
+  allowed_same f l w = rw (f, e.q-is, e.h_is) (record { q_gap = q_gap w; h_gap = h_gap w; square_in = l })
+
+  leeways_same : {s s' : ℤ} (o : Order) → s ≡ s' → leeways o s q h ≡ leeways o s' q' h'
+  leeways_same o f = rw (f, e.q-is, e.h_is)
+
+abbrev start : After-right_gap-h → Start
+start c = c.before.before.before.before.before.before.before.before
+
+abbrev numbers : Start → ℕ → Knot
+numbers c = numbers_at c.args.ys.now c.args.ms.now c.args.cs.now
+
+abbrev after : Start → ℕ
+after c = min (c.args.i + 1) (length c.args.xs.now - 1)
+
+handed : (c : After-right_gap-h) →
+    (let d = start c in
+    Handed (to_z w64 c.left_gap-q.result) (to_z w64 c.right_gap-h.result) (pos (left_gap d.args.xs.now d.args.i)) (pos (right_gap d.args.xs.now d.args.i))
+    c.knot_at-before.result c.knot_at-here.result c.knot_at-after.result
+    (numbers d (back d.args.i)) (numbers d d.args.i) (numbers d (after d)))
+handed c =
+    record {
+      q_is = to_z_pos w64 (omega (arith, c.left_gap-q.type-inv)) ∙ ap pos c.left_gap-q.ensures;
+      h_is = to_z_pos w64 (omega (arith, c.right_gap-h.type-inv)) ∙ ap pos c.right_gap-h.ensures;
+      before_is = c.knot_at-before.ensures ∙ ap (numbers (start c)) c.back.ensures;
+      here_is = c.knot_at-here.ensures;
+      after_is = c.knot_at-after.ensures ∙ ap (numbers (start c)) c.on.ensures;
+    }
+
+beside : (c : Start) → Beside (pos (left_gap c.args.xs.now c.args.i)) (pos (right_gap c.args.xs.now c.args.i)) (numbers c (back c.args.i)) (numbers c c.args.i) (numbers c (after c))
+beside c = (settled_knot c.requires.checked c.args.i c.requires.i_in_bounds 0 (omega arith)).beside
+
+pub knot_at-before-requires : goal.knot_at-before-requires
+knot_at-before-requires c =
+    let d = c.before.before in
+    let l = d.requires.checked.long in
+    let b : c.back.result ≤ d.args.i = subst (λ j. j ≤ d.args.i) (sym c.back.ensures) (back_below d.args.i) in
+    (omega (arith, d.requires.i_in_bounds, l.ordinates), omega (arith, d.requires.i_in_bounds, l.slopes), omega (arith, d.requires.i_in_bounds, l.curvatures))
+
+pub jump-requires : goal.jump-requires
+jump-requires c = beside_same (handed c) (beside (start c))
+
+-- ---- what they give
+
+jump_is : (c : After-jump) → to_z w64 (of_z w64 c.jump.result) ≡ c.jump.result
+jump_is c = to_z-of_z {w = w64} {z = c.jump.result} (record { sfits = c.jump.type-inv })
+
+pub size-requires : goal.size-requires
+size-requires c =
+    let g = c.before in
+    let o = (start g).args.order in
+    rw (jump_is c, c.jump.ensures, jump_same (handed g) o) (jump_fits (beside (start g)) o)
+
+squares_is : (c : After-squares) → to_z w64 (of_z w64 c.squares.result) ≡ (let a = (start c.before.before.before).args in pos (square_of a.kind a.order))
+squares_is c = to_z-of_z {w = w64} {z = c.squares.result} (record { sfits = c.squares.type-inv }) ∙ c.squares.ensures.0
+
+pub allowance-requires : goal.allowance-requires
+allowance-requires c =
+    let g = c.before.before.before in
+    allowed_same (handed g) (squares_is c) c.squares.ensures.1 (beside (start g))
+
+pub returns : goal.returns
+unfolding jump_at
+returns c left right =
+    let g = c.before.before.before.before in
+    let a = (start g).args in
+    let k = (start g).requires in
+    let size = c.size in
+    λ j.
+    record {
+      size =
+          (to_z-of_z {w = w64} {z = size.result} (record { sfits = size.type-inv })
+          ∙ size.ensures
+          ∙ ap (λ z. pos (nat_abs z))
+          (jump_is c.before.before.before ∙ c.jump.ensures ∙ jump_same (handed g) a.order
+          ∙ sym (jump_there a.kind a.order left right a.xs.now a.ys.now a.ms.now a.cs.now a.i k.0 k.1))) j;
+      allowance =
+          (to_z-of_z {w = w64} {z = c.allowance.result} (record { sfits = c.allowance.type-inv })
+          ∙ c.allowance.ensures
+          ∙ leeways_same (handed g) a.order (squares_is c.before)
+          ∙ sym (allowed_there a.kind a.order left right a.xs.now a.ys.now a.ms.now a.cs.now a.i)) j;
+    }

@@ -1,0 +1,34 @@
+-- `fit::solve` meets its contract. Assumes nothing.
+use mathlib.Core.Path.{ap, ◌∙◌}
+use lib.ListN.{get_or}
+use Rattle.elimination.specs.Refusal.{both_finite}
+use Rattle.knots.proofs.Accepted.{stood}
+use Rattle.passes.specs.declared.Solved.{Solved}
+use Rattle.passes.specs.Back.{no_pair}
+use Rattle.passes.proofs.Answers.{pairs-finite}
+use Rattle.fit.proofs.Fitting.{fits_along, fits_refused}
+use Rattle.fit.proofs.Worked.{refused_8, worked_out}
+use borrow.Author.Rules.{rules}
+use Rattle.fit.proofs.solve.Goals as goal
+
+pub pairs_of-solved-requires : goal.pairs_of-solved-requires
+pairs_of-solved-requires c = let s = c.before.before in ((s.requires.0.many, s.requires.0.ordinates, s.requires.0.slopes), (stood s.requires.1).rising)
+
+pub scale-numbers-requires : goal.scale-numbers-requires
+scale-numbers-requires c =
+    let s = c.before.before.before.before.before.before in
+    let p = c.pairs_of-solved in
+    (s.requires.0.many, λ k h. ap (λ (q : Solved). both_finite (get_or q.pairs k no_pair)) p.ensures ∙ pairs-finite _ _ _ k h)
+
+pub settle-requires : goal.settle-requires
+settle-requires c =
+    let t = search rules in record { alike = t.0; minutes_value = t.1 }
+
+pub returns-then-solved-eq0 : goal.returns-then-solved-eq0
+returns-then-solved-eq0 c =
+    let p = c.pairs_of-solved in
+    let x = c.scale-numbers in
+    fits_along (worked_out _ _ _ _ p.ensures c.if-solved-eq0.true x.ensures) c.settle.ensures
+
+pub returns-else-solved-eq0 : goal.returns-else-solved-eq0
+returns-else-solved-eq0 c = let p = c.pairs_of-solved in fits_along (refused_8 _ _ _ _ p.ensures c.if-solved-eq0.false) fits_refused

@@ -1,0 +1,26 @@
+-- `numeral::Number::natural` meets its contract, test by test. Assumes nothing.
+use mathlib.Core.Path.{◌≡◌, sym, ◌∙◌}
+use mathlib.Core.Bool.{true}
+use borrow.Author.Rules.{rules}
+use borrow.Author.Tests.{not-true, not-false}
+use Rattle.numeral.specs.Number.{all_digits}
+use Rattle.numeral.proofs.Numbers.{is_not_whole, is_padded, is_value}
+use Rattle.numeral.proofs.Number.natural.Goals as goal
+use Rattle.numeral.proofs.Number.natural.Goals.{Else-not-all_digits}
+
+pub returns-then-not-all_digits : goal.returns-then-not-all_digits
+returns-then-not-all_digits c = is_not_whole _ _ (sym c.all_digits.ensures ∙ not-true _ c.if-not-all_digits.true)
+
+digits : (c : Else-not-all_digits) → all_digits c.args.word.now ≡ true
+digits c = sym c.all_digits.ensures ∙ not-false _ c.if-not-all_digits.false
+
+pub returns-then-padded : goal.returns-then-padded
+returns-then-padded c = is_padded _ _ (digits c.before.before) (sym c.padded.ensures ∙ c.if-padded.true)
+
+pub value-requires : goal.value-requires
+value-requires c = digits c.before.before
+
+pub returns : goal.returns
+returns c =
+    let q = c.before in
+    c.value.ensures ∙ is_value _ _ (digits q.before.before) (sym q.padded.ensures ∙ q.if-padded.false)

@@ -1,0 +1,15 @@
+-- `numeral::Ordinate::of` meets its contract. Assumes nothing.
+use mathlib.Core.Path.{◌≡◌, sym, ap, ◌∙◌}
+use borrow.Author.Rules.{rules}
+use Rattle.numeral.specs.Number.{narrowed, ordinate}
+use Rattle.numeral.proofs.Ordinate.of.Goals as goal
+
+pub returns-then-lone_minus : goal.returns-then-lone_minus
+unfolding ordinate
+returns-then-lone_minus c = rw (sym c.lone_minus.ensures ∙ c.if-lone_minus.true)
+
+pub returns : goal.returns
+unfolding ordinate
+returns c =
+    let q = c.before.before in
+    rw (sym q.lone_minus.ensures ∙ q.if-lone_minus.false) (c.narrowed.ensures ∙ ap narrowed c.of.ensures)

@@ -1,0 +1,19 @@
+-- `refit::anew` meets its contract. Assumes nothing.
+use mathlib.Core.Path.{sym}
+use Rattle.opened.proofs.Fronts.{knots_decoded}
+use Rattle.refit.proofs.Renewal.{renews_given, renews_refused}
+use borrow.Author.Rules.{rules}
+use Rattle.refit.proofs.anew.Goals as goal
+
+pub changed-requires : goal.changed-requires
+changed-requires c =
+    let t = search rules in record { full = t.0; slopes_len = t.1 }
+
+pub returns-then-fitted-eq0 : goal.returns-then-fitted-eq0
+returns-then-fitted-eq0 c =
+    let f = c.before.before.before.before.before.before.before.before in
+    let s = f.before.before.before in
+    renews_given f.fresh.ensures c.if1.true (sym (knots_decoded s.args.card s.requires.0.0)) c.changed.ensures
+
+pub returns : goal.returns
+returns c = renews_refused c.fresh-fitted.ensures c.if-fitted-eq0.false

@@ -1,0 +1,34 @@
+-- `refit::differing` meets its contract. Assumes nothing.
+use Prim.Native.Nat.{◌-◌, ◌<◌}
+use native.Mathlib.Omega.{arith}
+use mathlib.Core.Logic.{⊎_elim}
+use mathlib.Core.Path.{◌≡◌, sym, ap, ◌∙◌}
+use lib.Signed.{mag}
+use lib.IntN.{ℤ, pos, ℤ_discrete}
+use lib.ListN.{length, get_or}
+use mir.Syntax.{w32}
+use mir.Val.{to_z, of_z}
+use mir.ValLaws.{to_z-of_z}
+use borrow.Author.Rules.{rules}
+use Rattle.refit.proofs.Places.{Counted, counted_none, counted_same, counted_apart, counted_all}
+use Rattle.refit.proofs.differing.Goals as goal
+
+pub loop-i-init : goal.loop-i-init
+loop-i-init c = counted_none _
+
+pub loop-i-preserved : goal.loop-i-preserved
+loop-i-preserved c =
+    let s = c.before.before.before.before.before in
+    let l = c.loop-i in
+    let a = get_or s.args.held.now l.i (pos 0) in
+    let b = get_or s.args.anew.now l.i (pos 0) in
+    let more = c.loop-i-test.true in
+    let told : (z : ℤ) → mag z < 2147483648 → to_z w32 (of_z w32 z) ≡ z = λ z h. to_z-of_z w32 z (record { sfits = h }) in
+    let one_number : of_z w32 a ≡ of_z w32 b → a ≡ b = λ e. sym (told a c.t8-1.given) ∙ ap (to_z w32) e ∙ told b c.t11-1.given in
+    ⊎_elim
+    (λ w. rw w.1 (counted_apart _ l.invariant (pos 0) more s.requires.1 (λ e. w.0.taken (ap (of_z w32) e))))
+    (λ w. rw w.1 (counted_same _ l.invariant (pos 0) more s.requires.1 (one_number w.0.left)))
+    c.if-held-i.branch
+
+pub returns : goal.returns
+returns c = (counted_all _ c.loop-i.invariant c.loop-i-test.false c.requires.1, omega (arith, c.loop-i.invariant))

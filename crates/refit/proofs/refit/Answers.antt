@@ -1,0 +1,70 @@
+-- `refit::refit` meets its contract: refused, it writes nothing; accepted, the opened card is fitted anew.
+-- Assumes nothing.
+use Prim.Native.Nat.{◌≤◌}
+use native.Mathlib.Omega.{arith}
+use mathlib.Core.Path.{◌≡◌, sym, ◌∙◌}
+use lib.ListN.{length}
+use lib.Seq.{length-take-le}
+use Rattle.answer.specs.Judge.{verdict_of}
+use Rattle.answer.proofs.Chain.{step_accepts, step_refused}
+use Rattle.curve.specs.Kind.{quintic}
+use Rattle.curve.specs.Card.{knots}
+use Rattle.curve.specs.Orders.{lists_order}
+use Rattle.card_bytes.specs.Held.{card_of}
+use Rattle.card_bytes.proofs.ByHead.{accepted_count}
+use Rattle.decode.specs.Decoded.{Holds}
+use Rattle.opened.proofs.Fronts.{knots_held}
+use Rattle.opened.proofs.Opening.{opened_kind, accepted_holds}
+use Rattle.card.specs.Answers.{own}
+use Rattle.card.proofs.Lists.{opened_order, Taken, order_takes}
+use Rattle.refit.proofs.Renewal.{refits_refused, refits_given}
+use borrow.Author.Rules.{rules}
+use Rattle.refit.proofs.refit.Goals as goal
+use Rattle.refit.proofs.refit.Goals.{After-into, In-Accepted}
+
+pub into-requires : goal.into-requires
+into-requires c = search rules
+
+verdict_is : (c : After-into)
+    → (let a = c.args in let s = a.card.now in let m = length a.slopes.now in
+    verdict_of c.into.result ≡ lists_order m m m (length a.curvatures.now) (own s) (knots (card_of s)))
+verdict_is c = c.into.ensures ∙ opened_order _ _ _ _ _ c.by_head-opened.ensures
+
+took : (c : In-Accepted) → (let a = c.args in let m = length a.slopes.now in Taken m m m (length a.curvatures.now) a.card.now)
+took c = order_takes _ _ _ _ _ (step_accepts (verdict_is c.before.before) c.in-Accepted.is)
+
+holds : (c : In-Accepted) → Holds c.by_head-opened.result.card c.args.card.now
+holds c = accepted_holds c.by_head-opened.ensures (took c).own
+
+-- both lists have a place for each knot
+room : (c : In-Accepted)
+    → (let a = c.args in let n = c.by_head-opened.result.card.knots in
+    (n ≤ length a.slopes.now) × (n ≤ length a.curvatures.now))
+room c = (omega (arith, (took c).room, knots_held (holds c)), omega (arith, (took c).room, (took c).curvatures, knots_held (holds c)))
+
+pub slice_bounds-anew-end : goal.slice_bounds-anew-end
+slice_bounds-anew-end c = (room c).0
+
+pub slice_bounds-anew-end-in-Accepted : goal.slice_bounds-anew-end-in-Accepted
+slice_bounds-anew-end-in-Accepted c = sym (length-take-le _ _ (room c.before).0)
+
+pub slice_bounds-anew-end-in-Accepted-2 : goal.slice_bounds-anew-end-in-Accepted-2
+slice_bounds-anew-end-in-Accepted-2 c = (room c.before).1
+
+pub slice_bounds-anew-end-in-Accepted-3 : goal.slice_bounds-anew-end-in-Accepted-3
+slice_bounds-anew-end-in-Accepted-3 c = sym (length-take-le _ _ (room c.before.before).1)
+
+pub anew-requires : goal.anew-requires
+unfolding quintic
+anew-requires c =
+    let t = c.before.before in
+    let h = holds t in record { full = (h.full, omega (arith, (accepted_count _ (took t).own).some, knots_held h)); slopes_len = (length-take-le _ _ (room t).0, length-take-le _ _ (room t).1) }
+
+pub returns-in-Refused : goal.returns-in-Refused
+returns-in-Refused c = refits_refused _ _ _ (step_refused (verdict_is c.before.before.before) c.in-Refused.is)
+
+pub returns-in-Accepted : goal.returns-in-Accepted
+returns-in-Accepted c =
+    let t = c.before.before.before.before.before in
+    let h = holds t in
+    refits_given _ _ _ (step_accepts (verdict_is t.before.before) t.in-Accepted.is) (opened_kind t.by_head-opened.ensures) (sym (knots_held h)) (rw h.is at c.anew.ensures)

@@ -1,0 +1,23 @@
+-- `slope_fit::settle` meets its contract. Assumes nothing.
+use mathlib.Core.Path.{refl, ap, ◌∙◌}
+use lib.ListN.{take}
+use Rattle.answer.proofs.Chain.{step_refuses, step_passes}
+use Rattle.fit.specs.Fit.{tested}
+use Rattle.fit.proofs.Fitting.{fits_along, fits_refused, fits_given}
+use borrow.Author.Rules.{rules}
+use Rattle.slope_fit.proofs.settle.Goals as goal
+
+pub write-requires : goal.write-requires
+write-requires c = search rules
+
+pub returns-in-Accepted : goal.returns-in-Accepted
+unfolding tested
+returns-in-Accepted c =
+    let s = c.before.before.before.before.before.before.before in
+    fits_along
+    (step_passes _ c.judge-sound.ensures c.in-Accepted.is refl)
+    (fits_given refl (c.write.ensures ∙ ap (λ n. take n s.args.worked) s.requires.alike.curvatures))
+
+pub returns-in-Refused : goal.returns-in-Refused
+unfolding tested
+returns-in-Refused c = fits_along (step_refuses _ c.judge-sound.ensures c.in-Refused.is) fits_refused

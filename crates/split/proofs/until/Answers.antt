@@ -1,0 +1,13 @@
+-- `split::until` meets its contract. Assumes nothing.
+use mathlib.Core.Path.{sym, ap}
+use lib.ListN.{take}
+use lib.Seq.{length-take-le}
+use borrow.Author.Rules.{rules}
+use Rattle.split.proofs.Stops.{stop_le}
+use Rattle.split.proofs.until.Goals as goal
+
+pub slice_bounds-result-end : goal.slice_bounds-result-end
+slice_bounds-result-end c = sym (length-take-le _ _ (rw c.stop.ensures (stop_le _ _)))
+
+pub returns : goal.returns
+returns c = ap (λ n. take n c.before.before.before.args.text.now) c.stop.ensures

@@ -1,0 +1,57 @@
+-- `text::Line::of_words` meets its contract, word by word. Assumes nothing.
+use mathlib.Core.Path.{◌≡◌, ap, ◌∙◌}
+use borrow.Author.Rules.{rules}
+use Rattle.split.specs.Parts.{past, until}
+use Rattle.numeral.specs.Number.{signed_number}
+use Rattle.text.specs.Sheet.{knot, with_slope}
+use Rattle.split.specs.declared.Mark.TheVariants.{Blank, Word}
+use Rattle.text.proofs.Lines.{no_words, one_word, two_words, three_words, four_words}
+use Rattle.text.proofs.Line.of_words.Goals as goal
+use Rattle.text.proofs.Line.of_words.Goals.{After-knot-two, After-past-fourth, After-past-second, After-past-third}
+
+second : (c : After-past-second) → c.past-second.result.now ≡ past Word (past Blank c.past-first.result.now)
+second c = c.past-second.ensures ∙ ap (past Word) c.past.ensures
+
+third : (c : After-past-third) → c.past-third.result.now ≡ past Word (past Blank c.past-second.result.now)
+third c = c.past-third.ensures ∙ ap (past Word) c.past-2.ensures
+
+fourth : (c : After-past-fourth) → c.past-fourth.result.now ≡ past Word (past Blank c.past-third.result.now)
+fourth c = c.past-fourth.ensures ∙ ap (past Word) c.past-3.ensures
+
+-- the knot of the first two words
+pair : (c : After-knot-two)
+    → c.knot-two.result ≡ knot (until Blank c.past-first.result.now) (until Blank c.past-second.result.now)
+pair c = c.knot-two.ensures ∙ rw (c.until.ensures, c.until-2.ensures)
+
+pub returns-then-first-eq0 : goal.returns-then-first-eq0
+returns-then-first-eq0 c = no_words _ c.past-first.ensures c.if-first-eq0.true
+
+pub returns-then-second-eq0 : goal.returns-then-second-eq0
+returns-then-second-eq0 c =
+    let q = c.before.before.before in
+    one_word _ q.past-first.ensures q.if-first-eq0.false (second c.before) c.if-second-eq0.true
+
+pub returns-then-third-eq0 : goal.returns-then-third-eq0
+returns-then-third-eq0 c =
+    let k = c.before.before.before in
+    let r = k.before.before.before in
+    let q = r.before.before.before in
+    pair k ∙ two_words _ q.past-first.ensures q.if-first-eq0.false (second r.before) r.if-second-eq0.false (third c.before) c.if-third-eq0.true
+
+pub returns-then-fourth-gt0 : goal.returns-then-fourth-gt0
+returns-then-fourth-gt0 c =
+    let e = c.before.before.before in
+    let r = e.before.before.before.before.before.before in
+    let q = r.before.before.before in
+    four_words _ q.past-first.ensures q.if-first-eq0.false (second r.before) r.if-second-eq0.false (third e.before) e.if-third-eq0.false (fourth c.before) c.if-fourth-gt0.true
+
+pub returns : goal.returns
+returns c =
+    let d = c.before.before.before in
+    let e = d.before.before.before in
+    let k = e.before.before.before in
+    let r = k.before.before.before in
+    let q = r.before.before.before in
+    c.with_slope.ensures
+    ∙ rw (pair k, c.of.ensures, c.until-3.ensures)
+    (three_words _ q.past-first.ensures q.if-first-eq0.false (second r.before) r.if-second-eq0.false (third e.before) e.if-third-eq0.false (fourth d.before) d.if-fourth-gt0.false)

@@ -1,0 +1,18 @@
+-- `text::named_word` meets its contract: the second word's. Assumes nothing.
+use mathlib.Core.Path.{ap, ◌∙◌}
+use borrow.Author.Rules.{rules}
+use Rattle.split.specs.Parts.{until, past}
+use Rattle.split.specs.declared.Mark.TheVariants.{Blank, Word}
+use Rattle.text.specs.Sheet.{named}
+use Rattle.text.proofs.Names.{second_named}
+use Rattle.text.proofs.named_word.Goals as goal
+
+pub returns : goal.returns
+returns c =
+    let third = c.before.before in
+    let first = third.before.before in
+    c.named.ensures ∙ ap named c.until.ensures
+    ∙ ap (λ l. named (until Blank l)) third.past-second.ensures
+    ∙ ap (λ l. named (until Blank (past Word l))) third.past.ensures
+    ∙ ap (λ l. named (until Blank (past Word (past Blank l)))) first.past-first.ensures
+    ∙ second_named _

@@ -1,0 +1,8 @@
+-- `Row::of` meets its contract, by the rule of the table.
+-- Assumes nothing.
+use borrow.Author.Rules.{rules}
+use Rattle.weight_sheet.proofs.Sheet.{rule}
+use Rattle.weight_sheet.proofs.Row.of.Goals as goal
+
+pub returns : goal.returns
+returns c = let d = c.before.before.before in rule d.args.i d.requires

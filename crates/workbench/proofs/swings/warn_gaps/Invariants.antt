@@ -1,0 +1,12 @@
+-- `workbench::swings::warn_gaps` is safe and ends: every gap of a card that can be read may be asked for.
+-- Assumes nothing.
+use Prim.Native.Nat.{◌-◌, ◌<◌}
+use native.Mathlib.Omega.{arith}
+use borrow.Author.Rules.{rules}
+use Rattle.workbench.proofs.swings.warn_gaps.Given as goal
+
+abbrev pub invariant-loop-i : goal.invariant-loop-i
+invariant-loop-i l = 0 < l.i
+
+abbrev pub decreases-loop-i : goal.decreases-loop-i
+decreases-loop-i l = l.knots - l.i

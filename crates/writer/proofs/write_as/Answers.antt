@@ -1,0 +1,57 @@
+-- `writer::write_as` meets its contract: refused, it writes nothing; accepted, the card's bytes.
+-- Assumes nothing.
+use mathlib.Core.Path.{◌≡◌}
+use mathlib.Core.List.{List}
+use Prim.Native.Nat.{ℕ}
+use native.Mathlib.Omega.{arith}
+use lib.ListN.{length}
+use Rattle.answer.specs.Answer.{accepted}
+use Rattle.answer.proofs.Chain.{step_accepts, step_refused}
+use Rattle.curve.specs.Card.{Card}
+use Rattle.curve.specs.Orders.{write_order}
+use Rattle.knots.specs.declared.Kind.{Kind}
+use Rattle.knots.specs.Kinds.{kind_of}
+use Rattle.knots.specs.Lent.{lent}
+use Rattle.writer.proofs.Ready.{Ready, ready_of, writes_refused, writes_given}
+use borrow.Author.Rules.{rules}
+use Rattle.writer.proofs.write_as.Goals as goal
+use Rattle.writer.proofs.write_as.Goals.{After-writable-verdict, In_default}
+
+abbrev kind : After-writable-verdict → Kind
+kind c = c.args.kind
+
+abbrev card : After-writable-verdict → Card
+card c = let a = c.args in lent a.minutes.now a.ordinates.now a.slopes.now a.curvatures.now a.left a.right
+
+abbrev buffer : After-writable-verdict → List ℕ
+buffer c = c.args.buffer.now
+
+accepts : (c : In_default) → write_order (kind_of (kind c.before.before)) (card c.before.before) (length (buffer c.before.before)) ≡ accepted
+accepts c = step_accepts c.writable-verdict.ensures c.in_default.is
+
+ready : (c : In_default) → Ready (card c.before.before) (length (buffer c.before.before))
+ready c = ready_of (kind c.before.before) _ _ (accepts c)
+
+pub returns-in-Refused : goal.returns-in-Refused
+returns-in-Refused c =
+    let w = c.before.before.before in
+    writes_refused (kind_of (kind w)) (card w) (buffer w) (step_refused w.writable-verdict.ensures c.in-Refused.is)
+
+pub put_card-requires : goal.put_card-requires
+put_card-requires c = let t =
+    let t = ready c.before in omega arith in record { minutes_len_bound = t.0; ordinates_len = t.1; minutes_in_bounds = t.2 }
+
+pub overflow_mul-result : goal.overflow_mul-result
+overflow_mul-result c = let t = ready c.before.before.before.before in omega arith
+
+pub overflow_add-result : goal.overflow_add-result
+overflow_add-result c = let t = ready c.before.before.before.before in omega arith
+
+pub overflow_cast-result : goal.overflow_cast-result
+overflow_cast-result c = let t = ready c.before.before.before.before in omega arith
+
+pub returns : goal.returns
+returns c =
+    let e = c.before.before.before.before in
+    let w = e.before.before in
+    writes_given (kind_of (kind w)) (card w) (buffer w) (accepts e) c.put_card.ensures
