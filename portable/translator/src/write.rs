@@ -482,6 +482,16 @@ impl<'r, 'a> Writer<'r, 'a> {
     }
 
     fn switch(&mut self, x: &Expr, arms: &[(Vec<u64>, Vec<Stmt>)]) -> bool {
+        if let [(keys, first), (_, last)] = arms {
+            if let ([k], true) = (&keys[..], first.is_empty()) {
+                let Ty::Int(w) = self.ty(x) else { return fail("a switch", &self.ty(x).tag()) };
+                let text = self.op2(Op2::Ne, x, &Expr::Int(w, *k));
+                self.line(&format!("if ({text}) {{"));
+                self.inner(last);
+                self.line("}");
+                return true;
+            }
+        }
         let (mut word, mut past) = ("", false);
         for (keys, code) in arms {
             let tests: Vec<String> = keys.iter().map(|k| self.key(x, *k)).collect();
