@@ -168,13 +168,19 @@ fn parameters(text: &str) -> Vec<String> {
     parts.iter().filter_map(|p| identifier(p.split_once(':').map_or(p.as_str(), |(name, _)| name))).collect()
 }
 
-/// What a body binds: by `let`, and by the patterns of `match` and `if let`.
+/// What a body binds: by `let`, by `for`, and by the patterns of `match` and `if let`. A `for` over a list also
+/// has a place in it, which has no name.
 fn bound(item: &[&str], indent: &str) -> Vec<String> {
     let opens = |l: &&str| **l == format!("{indent}{{") || l.starts_with(&format!("{indent})")) && l.ends_with('{');
     let from = item.iter().position(|l| opens(l) || without_marks(l.trim()).starts_with("fn ") && l.ends_with('{')).unwrap_or(item.len());
     let mut all = vec![];
     for line in item.iter().skip(from + 1).map(|l| l.trim()).filter(|l| !l.starts_with("//") && !l.starts_with('"')) {
-        if let Some((pattern, _)) = line.strip_prefix("if let ").and_then(|l| l.split_once(" = ")) {
+        if let Some((pattern, over)) = line.strip_prefix("for ").and_then(|l| l.split_once(" in ")) {
+            if !over.contains("..") {
+                all.push(String::new());
+            }
+            all.extend(in_pattern(pattern));
+        } else if let Some((pattern, _)) = line.strip_prefix("if let ").and_then(|l| l.split_once(" = ")) {
             all.extend(in_pattern(pattern));
         } else if let Some(rest) = line.strip_prefix("let ") {
             all.extend(identifier(rest.split(['=', ':']).next().unwrap_or("")));

@@ -20,7 +20,7 @@ pub fn local_names(names: &Names, symbol: &str, f: &Function, globals: &BTreeSet
             (_, Some(parameter)) => params.get(parameter - 1),
             (_, None) => bound.get(i - f.params - f.copies() - 1),
         };
-        let name = source.map_or(number.clone(), |name| safe(name));
+        let name = source.filter(|name| !name.is_empty()).map_or(number.clone(), |name| safe(name));
         let taken = |name: &String| all.contains(name) || globals.contains(name);
         // a name that is bound twice has its number behind it the second time
         all.push(if taken(&name) { format!("{name}_{i}") } else { name });
