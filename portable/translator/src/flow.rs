@@ -7,9 +7,12 @@
 //! - A struct or an array that is a copy of a part of another, both of them only read from then on, is that
 //!   part.
 //! - A value that a branch makes for the code behind it to return is returned there.
+//! - A block that is left only where it ends is no block, and two tests of which the second is all that the
+//!   first guards are one.
 //! - A multiple of an element's size, counted from an array or a list, is an element of it.
 //! - An array of constants that is only read is a table of the file.
 use crate::code::{Body, Expr, Function, Program, Stmt};
+use crate::operations::Op2;
 use crate::types::{Shape, Ty, Types};
 
 /// What a function's code is read with: its own locals, and what the program knows.
@@ -50,6 +53,7 @@ pub fn ready<'a>(types: &'a Types, program: &'a Program, f: &'a Function, bindin
         scope.forward(&mut code, &alone);
         each_value(&mut code, &mut |e| scope.index(e));
         scope.share_copies(&mut code);
+        plain_blocks(&mut code);
         scope.return_at_once(&mut code);
         scope.drop_unread(&mut code);
     }
@@ -367,10 +371,10 @@ impl Scope<'_> {
             }
             return;
         }
-        let Expr::Op2(crate::operations::Op2::Offset, from, by) = &**p else { return };
+        let Expr::Op2(Op2::Offset, from, by) = &**p else { return };
         let bytes = self.types.layout(t).0;
         let at = match &**by {
-            Expr::Op2(crate::operations::Op2::Mul, i, each) if **each == Expr::Int(64, bytes) => i.clone(),
+            Expr::Op2(Op2::Mul, i, each) if **each == Expr::Int(64, bytes) => i.clone(),
             Expr::Int(64, n) if bytes > 0 && n % bytes == 0 => Box::new(Expr::Int(64, n / bytes)),
             by if bytes == 1 => Box::new(by.clone()),
             _ => return,
@@ -544,6 +548,84 @@ fn give_result(code: &mut Vec<Stmt>, v: usize) {
         }
         Some(s @ (Stmt::If(..) | Stmt::Switch(..))) => inner_mut(s).into_iter().for_each(|c| give_result(c, v)),
         _ => {}
+    }
+}
+
+// ---- blocks
+
+fn plain_blocks(code: &mut Vec<Stmt>) {
+    code.iter_mut().flat_map(inner_mut).for_each(plain_blocks);
+    code.retain(|s| *s != Stmt::Block(vec![]));
+    code.iter_mut().for_each(both_tests);
+    let mut i = 0;
+    while i < code.len() {
+        if let Stmt::Block(inside) = &mut code[i] {
+            fall_through(inside, 0);
+            one_or_other(inside);
+            if !leaves(inside, 0) {
+                let mut inside = std::mem::take(inside);
+                one_block_less(&mut inside, 0);
+                code.splice(i..=i, inside);
+                continue;
+            }
+        }
+        i += 1;
+    }
+}
+
+/// Where code ends, going out of so many blocks and loops to the end of the next is going on.
+fn fall_through(code: &mut Vec<Stmt>, depth: usize) {
+    while code.last() == Some(&Stmt::Exit(depth)) {
+        code.pop();
+    }
+    match code.last_mut() {
+        Some(s @ (Stmt::If(..) | Stmt::Switch(..))) => inner_mut(s).into_iter().for_each(|c| fall_through(c, depth)),
+        Some(Stmt::Block(inside)) => fall_through(inside, depth + 1),
+        _ => {}
+    }
+}
+
+/// A test whose code ends in leaving the block: what is behind it is for the other answer.
+fn one_or_other(inside: &mut Vec<Stmt>) {
+    let at = inside.iter().position(|s| matches!(s, Stmt::If(_, yes, no) if yes.last() == Some(&Stmt::Exit(0)) && no.is_empty()));
+    let ends_in_loop = matches!(inside.last(), Some(Stmt::Loop(_)));
+    if let (Some(at), false) = (at, ends_in_loop) {
+        let mut rest = inside.split_off(at + 1);
+        one_or_other(&mut rest);
+        if let Some(Stmt::If(_, yes, no)) = inside.last_mut() {
+            yes.pop();
+            *no = rest;
+        }
+    }
+}
+
+/// Whether something in a block's code goes to its end.
+fn leaves(code: &[Stmt], depth: usize) -> bool {
+    code.iter().any(|s| match s {
+        Stmt::Exit(k) => *k == depth,
+        Stmt::Block(c) | Stmt::Loop(c) => leaves(c, depth + 1),
+        s => inner(s).into_iter().any(|c| leaves(c, depth)),
+    })
+}
+
+fn one_block_less(code: &mut [Stmt], depth: usize) {
+    for s in code {
+        match s {
+            Stmt::Exit(k) if *k > depth => *k -= 1,
+            Stmt::Block(c) | Stmt::Loop(c) => one_block_less(c, depth + 1),
+            s => inner_mut(s).into_iter().for_each(|c| one_block_less(c, depth)),
+        }
+    }
+}
+
+/// The second test is made only where the first holds, as C's && does too.
+fn both_tests(s: &mut Stmt) {
+    let Stmt::If(first, yes, no) = s else { return };
+    if let ([Stmt::If(second, both, other)], true) = (&mut yes[..], no.is_empty()) {
+        if other.is_empty() && operations(first) + operations(second) < MOST_OPERATIONS {
+            let (a, b) = (Box::new(first.clone()), Box::new(second.clone()));
+            *s = Stmt::If(Expr::Op2(Op2::And, a, b), std::mem::take(both), vec![]);
+        }
     }
 }
 
