@@ -7,8 +7,8 @@
 //! - A struct or an array that is a copy of a part of another, both of them only read from then on, is that
 //!   part.
 //! - A value that a branch makes for the code behind it to return is returned there.
-//! - A block that is left only where it ends is no block, and two tests of which the second is all that the
-//!   first guards are one.
+//! - A block that is left only where it ends is no block; where a test leaves it, what is behind that is for
+//!   the other answer.
 //! - A multiple of an element's size, counted from an array or a list, is an element of it.
 //! - An array of constants that is only read is a table of the file.
 use crate::code::{Body, Expr, Function, Program, Stmt};
@@ -556,11 +556,11 @@ fn give_result(code: &mut Vec<Stmt>, v: usize) {
 fn plain_blocks(code: &mut Vec<Stmt>) {
     code.iter_mut().flat_map(inner_mut).for_each(plain_blocks);
     code.retain(|s| *s != Stmt::Block(vec![]));
-    code.iter_mut().for_each(both_tests);
     let mut i = 0;
     while i < code.len() {
         if let Stmt::Block(inside) = &mut code[i] {
             fall_through(inside, 0);
+            inside.iter_mut().for_each(both_tests);
             one_or_other(inside);
             if !leaves(inside, 0) {
                 let mut inside = std::mem::take(inside);
@@ -618,11 +618,13 @@ fn one_block_less(code: &mut [Stmt], depth: usize) {
     }
 }
 
-/// The second test is made only where the first holds, as C's && does too.
+/// Of a test that guards another one, which guards what leaves the block: the second is made only where the
+/// first holds, as C's && does too.
 fn both_tests(s: &mut Stmt) {
     let Stmt::If(first, yes, no) = s else { return };
     if let ([Stmt::If(second, both, other)], true) = (&mut yes[..], no.is_empty()) {
-        if other.is_empty() && operations(first) + operations(second) < MOST_OPERATIONS {
+        let is_left = both.last() == Some(&Stmt::Exit(0)) && other.is_empty();
+        if is_left && operations(first) + operations(second) < MOST_OPERATIONS {
             let (a, b) = (Box::new(first.clone()), Box::new(second.clone()));
             *s = Stmt::If(Expr::Op2(Op2::And, a, b), std::mem::take(both), vec![]);
         }

@@ -120,8 +120,10 @@ fn cases() -> Vec<Case> {
         vec![set(0, &of("(int 32 0)")), format!("(block {block})")]
     };
     let both_tests = || {
-        let second = seq(&[less(4, &y, "(int 32 7)"), format!("(if {} {} skip)", copy(4), plus(1))]);
-        vec![set(0, &of("(int 32 0)")), less(3, &x, "(int 32 5)"), format!("(if {} {second} skip)", copy(3))]
+        let both = seq(&[plus(1), "(exit 0)".into()]);
+        let second = seq(&[less(4, &y, "(int 32 7)"), format!("(if {} {both} skip)", copy(4))]);
+        let first = seq(&[less(3, &x, "(int 32 5)"), format!("(if {} {second} skip)", copy(3)), plus(100)]);
+        vec![set(0, &of("(int 32 0)")), format!("(block {first})")]
     };
     vec![
         // a copy in memory that is written through its address: what is read behind that is not what was
@@ -268,8 +270,8 @@ fn cases() -> Vec<Case> {
         case("the_other_answer", &["tyBool"], one_or_other(), (4, 3), 20),
         // the second test is made where the first holds, and both have to
         case("both_tests", &["tyBool", "tyBool"], both_tests(), (4, 6), 1),
-        case("only_the_first_test", &["tyBool", "tyBool"], both_tests(), (4, 7), 0),
-        case("only_the_second_test", &["tyBool", "tyBool"], both_tests(), (5, 6), 0),
+        case("only_the_first_test", &["tyBool", "tyBool"], both_tests(), (4, 7), 100),
+        case("only_the_second_test", &["tyBool", "tyBool"], both_tests(), (5, 6), 100),
         // an array of constants that is only read may be a table of the file
         case(
             "table",
