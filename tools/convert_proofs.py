@@ -162,7 +162,7 @@ def binders(sig):
 
 def convert(crate, folder, entry, module):
     path = os.path.join(folder, "Proof.antt")
-    text = read(path)
+    text = read(path).replace(".type-inv", ".type_inv").replace(".well-formed", ".well_formed")
     fn = Function(entry)
     head, decls = chunks(text)
     specs = [d for d in decls if "tie.close" in d]
@@ -220,8 +220,11 @@ def convert(crate, folder, entry, module):
         return t
 
     # ---- paths, with the places that variables stand for
-    def paths(body, env):
+    imported = set()
+
+    def paths(body, env, label=None):
         env = dict(env)
+        labels = dict(label or {})
 
         def fields_of(it):
             var, rest = it[1], it[2]
@@ -229,6 +232,14 @@ def convert(crate, folder, entry, module):
                 return it[0]
             fields = rest.split(".")[1:]
             new, place = fn.walk(env[var], fields)
+            if place is not None:
+                here = env[var]
+                named = labels.get(var)
+                if named is None:
+                    named = fn.places[here]["new"]
+                    imported.add(named)
+                imported.add(fn.places[place]["new"])
+                return f"(goal.at.{named} {var}).{fn.places[place]['new']}"
             return ".".join([var] + new)
 
         # let-bound places first, in order
@@ -238,6 +249,7 @@ def convert(crate, folder, entry, module):
                 _, place = fn.walk(env[base], rest.split(".")[1:])
                 if place:
                     env[var] = place
+                    labels.pop(var, None)
                 elif var in env:
                     del env[var]
         return re.sub(r"(?<![^\s(){},;\[\]])(" + W + r")((?:\." + W + r")+)", fields_of, body)
@@ -359,7 +371,7 @@ def convert(crate, folder, entry, module):
             if EASY.match(inner.strip()):
                 continue
             vs = [v for v in vs if v != "κs"]
-            inner = paths(inner, {vs[0]: fn.place_of_need(i)})
+            inner = paths(inner, {vs[0]: fn.place_of_need(i)}, {vs[0]: goal})
             answers.append(f"pub {goal} : goal.{goal}\n{goal} {' '.join(vs)} = {types(inner)}")
         else:
             answers.append(f"pub {goal} : goal.{goal}\n{goal} = {types(body)}")
@@ -367,7 +379,12 @@ def convert(crate, folder, entry, module):
         if d in moved:
             continue
         env = env_of(d)
-        d2 = paths(d, env)
+        label = {}
+        code = "\n".join(l for l in d.split("\n") if not l.startswith("--"))
+        of = re.match(r"(?:abbrev )?(" + W + r")\s*:\s*tie\.Need-", code)
+        if of and of[1] in args and len(env) == 1:
+            label = {next(iter(env)): fn.needs[args.index(of[1])][1]}
+        d2 = paths(d, env, label)
         d2 = types(d2)
         out.append(d2)
     # goals by their new names
@@ -405,9 +422,22 @@ def convert(crate, folder, entry, module):
             it = re.search(r"(?m)^(?:(?:abbrev|unfoldable|pub|data|record) )*(" + W + r")", "\n".join(l for l in d2.split("\n") if not l.startswith("--")))
             names_moved.append(it[1])
         text_final = "\n\n".join(final)
+        named_clauses = (entry["pre"] or {}).get("fields") or []
+
+        def clause(it):
+            n = int(it[1]) - entry["pre"].get("before", 0)
+            return f".requires.{named_clauses[n]}" if 0 <= n < len(named_clauses) else it[0]
+
+        if len(named_clauses) > 1:
+            text_final = re.sub(r"\.(?:pre|requires)\.(\d)(?!\d)", clause, text_final)
+        text_final = re.sub(r"(?<=[\w)])\.pre(?![\w-])", ".requires", text_final)
+        text_final = re.sub(r"\.fits\.(?=[a-z])", ".ranges.", text_final)
         cited = [n for n in names_moved if re.search(r"(?<![^\s(){},;\[\]])" + re.escape(n) + r"(?![^\s(){},;\[\].])", text_final)]
         if cited:
             extra.append(f"use {module}.Invariants.{{{', '.join(cited)}}}")
+        places_used = sorted(imported)
+        if places_used:
+            text_final = "--PLACES " + " ".join(places_used) + "\n" + text_final
         ans = notes + uses + extra + [f"use {module}.Goals as goal", ""] + text_final.split("\n") + [""]
         with open(os.path.join(folder, "Answers.antt"), "w", encoding="utf-8") as it:
             it.write("\n".join(ans))
@@ -416,7 +446,133 @@ def convert(crate, folder, entry, module):
     return "wrote " + ", ".join(wrote) if wrote else "nothing is left to say"
 
 
+def respell(crate, folder, entry, module):
+    """Keeps the walk, and writes its names as today's."""
+    path = os.path.join(folder, "Proof.antt")
+    text = read(path)
+    fn = Function(entry)
+    head, decls = chunks(text)
+    spec = [d for d in decls if "tie.close" in d][0]
+    m = re.search(r"tie\.close\s*\(\s*tie\.spec\b(.*)\)\s*$", spec, re.S)
+    args = groups(m[1]) if m else []
+    while args and re.search(r"(?m)^(?:abbrev )?" + re.escape(args[0]) + r"\s*:\s*tie\.(invariant|decreases)-", text):
+        args.pop(0)
+
+    def walk(place, fields):
+        at, out = place, []
+        for k, f in enumerate(fields):
+            row = fn.places[at]
+            if f == "before":
+                out.append(f)
+                at = row["parent"]
+                if at is None:
+                    return out + fields[k + 1 :], None
+                continue
+            if row["field"][0] and norm(row["field"][0]) == norm(f):
+                return out + [row["field"][1]] + fields[k + 1 :], None
+            rest = fields[k:]
+            if rest[0] == "requires" and len(rest) > 1 and rest[1].isdigit() and entry["pre"]:
+                named = entry["pre"]["fields"]
+                n = int(rest[1]) - entry["pre"].get("before", 0)
+                if 0 <= n < len(named) and len(named) > 1:
+                    rest = [rest[0], named[n]] + rest[2:]
+            return out + rest, None
+        return fields, at
+
+    def env_of(code):
+        env = {}
+        m = re.match(r"(?:(?:abbrev|unfoldable|pub) )*(" + W + r")\s*:\s(.*?)\n(?=\S)(.*)", code, re.S)
+        for it in re.finditer(r"\((" + W + r")\s*:\s*tie\.(" + W + r")", code):
+            if norm(it[2]) in fn.places:
+                env[it[1]] = norm(it[2])
+        if not m:
+            return env
+        name, sig, rest = m[1], m[2], m[3]
+        eq = re.search(r"(?m)^" + re.escape(name) + r"((?:\s+(?:\{[^}]*\}|" + W + r"))*)\s*=", rest)
+        params = [p for p in groups(eq[1]) if not p.startswith("{")] if eq else []
+        need = re.match(r"\s*tie\.Need-(" + W + ")", sig)
+        if need:
+            i = fn.need_by_norm.get(norm(need[1]))
+            if i is None:
+                i = next((k for k, a in enumerate(args) if a == name), None)
+            if params and i is not None:
+                env[params[0]] = fn.place_of_need(i)
+            return env
+        for k, (n, t) in enumerate(binders(sig)):
+            it = re.match(r"tie\.(" + W + ")", t)
+            if it and norm(it[1]) in fn.places:
+                if n:
+                    env[n] = norm(it[1])
+                if k < len(params):
+                    env[params[k]] = norm(it[1])
+        return env
+
+    def paths(body, env):
+        env = dict(env)
+        for it in re.finditer(r"\blet\s+(" + W + r")\s*=\s*(" + W + r")((?:\." + W + r")*)\s+in\b", body):
+            var, base, rest = it[1], it[2], it[3]
+            if base in env:
+                _, place = walk(env[base], rest.split(".")[1:])
+                if place:
+                    env[var] = place
+                else:
+                    env.pop(var, None)
+
+        def one(it):
+            if it[1] not in env:
+                return it[0]
+            return ".".join([it[1]] + walk(env[it[1]], it[2].split(".")[1:])[0])
+
+        return re.sub(r"(?<![^\s(){},;\[\]])(" + W + r")((?:\." + W + r")+)", one, body)
+
+    def types(t):
+        def need(it):
+            i = fn.need_by_norm.get(norm(it[1]))
+            return f"tie.Need-{fn.needs[i][1]}" if i is not None else it[0]
+
+        t = re.sub(r"tie\.Need-(" + W + ")", need, t)
+
+        def place(it):
+            p = fn.places.get(norm(it[1]))
+            return f"tie.{p['new']}" if p else it[0]
+
+        t = re.sub(r"tie\.(?!Need-|invariant-|decreases-)(" + W + ")", place, t)
+
+        def loop(it):
+            for (old, new), _ in fn.loops:
+                if norm(old) == norm(it[2]):
+                    return f"tie.{it[1]}-{new}"
+            return it[0]
+
+        return re.sub(r"tie\.(invariant|decreases)-(" + W + ")", loop, t)
+
+    out = []
+    for d in decls:
+        if d is spec:
+            new = []
+            k = 0
+            body = d
+            for i, a in enumerate(args):
+                lam = re.match(r"\(λ (" + W + r")( κs)?\.", a)
+                if lam:
+                    b = paths(a, {lam[1]: fn.place_of_need(i)})
+                    body = body.replace(a, b, 1) if b != a else body
+            name = re.search(r"(?m)^pub (\S+) :", body)[1]
+            want = os.path.basename(folder) + "_spec"
+            body = re.sub(r"(?<![^\s(])" + re.escape(name) + r"(?![^\s)])", want, body)
+            out.append(types(body))
+            continue
+        code = "\n".join(l for l in d.split("\n") if not l.startswith("--"))
+        env = env_of(code)
+        out.append(types(paths(d, env)))
+    with open(path, "w", encoding="utf-8") as it:
+        it.write("\n".join(head + [""] + "\n\n".join(out).split("\n") + [""]))
+    return "respelled"
+
+
 def main(argv):
+    walks = "--walk" in argv
+    argv = [a for a in argv if a != "--walk"]
     names, crate, only = argv[0], argv[1], set(argv[2:])
     entries = json.loads(read(os.path.join(names, "crates", crate, "names.json")))
     top = os.path.join("crates", crate, "proofs")
@@ -431,7 +587,7 @@ def main(argv):
             print(f"{crate}/{rel}: no names")
             continue
         try:
-            said = convert(crate, folder, entries[key], f"Rattle.{crate}.proofs.{rel.replace('/', '.')}")
+            said = (respell if walks else convert)(crate, folder, entries[key], f"Rattle.{crate}.proofs.{rel.replace('/', '.')}")
         except Exception as e:  # the file stays
             said = f"stopped: {type(e).__name__} {e}"
         print(f"{crate}/{rel}: {said}")

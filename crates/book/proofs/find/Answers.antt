@@ -18,23 +18,23 @@ walks : (c : In-Sound) → (let a = c.args in Walks a.room a.book.now c.in-Sound
 walks c = walk-sound _ _ (sym c.walk.ensures ∙ ap walked_of c.in-Sound.is)
 
 -- and the room is there
-found : (c : Else-size-eq0) → Found (walks c.before)
-found c = room-there (walks c.before) c.if-size-eq0.false
+found : (c : Else-size-eq0) → Found (walks (goal.at.Else-size-eq0 c).In-Sound)
+found c = room-there (walks (goal.at.Else-size-eq0 c).In-Sound) c.if-size-eq0.false
 
 stands : (c : Else-size-eq0) → (let m = c.in-Sound.slot in Stands c.args.book.now m.at m.size (found c).card)
 stands c = (found c).stands
 
 -- what its card is judged
-judged : (c : After-own) → verdict_of c.own.result ≡ own (found c.before.before).card
+judged : (c : After-own) → verdict_of c.own.result ≡ own (found (goal.at.After-own c).Else-size-eq0).card
 judged c =
     let m = c.in-Sound.slot in
-    let k = stands c.before.before in
-    let n : m.at + m.size - (m.at + 6) ≡ length (found c.before.before).card = omega (arith, k.bytes) in
+    let k = stands (goal.at.After-own c).Else-size-eq0 in
+    let n : m.at + m.size - (m.at + 6) ≡ length (found (goal.at.After-own c).Else-size-eq0).card = omega (arith, k.bytes) in
     let s = c.args.book.now in
     c.own.ensures ∙ ap own (ap (λ i. take i (drop (m.at + 6) s)) n ∙ k.part)
 
 pub returns-then-size-eq0 : goal.returns-then-size-eq0
-returns-then-size-eq0 c = c.refused-then-size-eq0.ensures ∙ spot-refused _ _ (room-absent (walks c.before.before) c.if-size-eq0.true)
+returns-then-size-eq0 c = c.refused-then-size-eq0.ensures ∙ spot-refused _ _ (room-absent (walks (goal.at.returns-then-size-eq0 c).In-Sound) c.if-size-eq0.true)
 
 pub returns-in-Refused : goal.returns-in-Refused
 returns-in-Refused c =
@@ -42,16 +42,16 @@ returns-in-Refused c =
 
 pub returns-in-Refused-own : goal.returns-in-Refused-own
 returns-in-Refused-own c =
-    let k = c.before.before.before.before in
-    let f = found k.before.before in
+    let k = (goal.at.returns-in-Refused-own c).After-own in
+    let f = found (goal.at.After-own k).Else-size-eq0 in
     c.refused-in-Refused-own.ensures ∙ spot-refused _ _ (f.answer ∙ sym (step_refuses _ (judged k) c.in-Refused-own.is))
 
 pub returns-in-Accepted : goal.returns-in-Accepted
 returns-in-Accepted c =
-    let k = c.before.before in
-    let w = walks k.before.before.before in
-    let f = found k.before.before in
-    let t = stands k.before.before in
+    let k = (goal.at.returns-in-Accepted c).After-own in
+    let w = walks (goal.at.After-own k).In-Sound in
+    let f = found (goal.at.After-own k).Else-size-eq0 in
+    let t = stands (goal.at.After-own k).Else-size-eq0 in
     spot-found w f (sym (judged k) ∙ ap verdict_of c.in-Accepted.is) (omega arith) (omega (arith, t.bytes))
 
 pub overflow_add-start : goal.overflow_add-start
@@ -70,10 +70,10 @@ pub slice_bounds-own-end : goal.slice_bounds-own-end
 slice_bounds-own-end c = omega (arith, (stands c).bytes, (stands c).inside)
 
 pub overflow_cast-result : goal.overflow_cast-result
-overflow_cast-result c = omega (arith, (stands c.before.before.before.before).within)
+overflow_cast-result c = omega (arith, (stands (goal.at.overflow_cast-result c).Else-size-eq0).within)
 
 pub overflow_sub-result : goal.overflow_sub-result
-overflow_sub-result c = omega (arith, (stands c.before.before.before.before).bytes)
+overflow_sub-result c = omega (arith, (stands (goal.at.overflow_sub-result c).Else-size-eq0).bytes)
 
 pub overflow_cast-result-in-Accepted : goal.overflow_cast-result-in-Accepted
-overflow_cast-result-in-Accepted c = omega (arith, (stands c.before.before.before.before).bytes, (stands c.before.before.before.before).within)
+overflow_cast-result-in-Accepted c = omega (arith, (stands (goal.at.overflow_cast-result-in-Accepted c).Else-size-eq0).bytes, (stands (goal.at.overflow_cast-result-in-Accepted c).Else-size-eq0).within)

@@ -14,10 +14,10 @@ hands c = rw c.find-found.ensures (handed _ _)
 
 pub returns : goal.returns
 returns c =
-    let k = c.before.before.before in
+    let k = (goal.at.returns c).After-find-found in
     let p = k.find-found.result in
     let n : p.start + p.length - p.start ≡ p.length = omega arith in
     ap (λ i. take i (drop p.start k.args.book.now)) n ∙ (hands k).is
 
 pub slice_bounds-result-end : goal.slice_bounds-result-end
-slice_bounds-result-end c = omega (arith, (hands c.before.before).inside)
+slice_bounds-result-end c = omega (arith, (hands (goal.at.slice_bounds-result-end c).After-find-found).inside)

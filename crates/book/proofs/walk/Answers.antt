@@ -10,11 +10,11 @@ use Rattle.book.specs.Steps.{past}
 use Rattle.book.proofs.Standing.{holding, Told, told_close, told_wrong, told_room}
 use Rattle.book.proofs.Walks.{Going, going_starts, going_wrong, going_closed, going_on}
 use Rattle.book.proofs.walk.Goals as goal
-use Rattle.book.proofs.walk.Goals.{In-Room}
+use Rattle.book.proofs.walk.Goals.{At-loop-here, In-Room}
 
 -- the record at which the walk stands is a room's
 here : (c : In-Room)
-    → (let l = c.before.before.before.before in
+    → (let l = (goal.at.In-Room c).At-loop-here in
     let f = c.here-1.given.0 in
     Told l.args.book.now l.loop-here.slot.bytes f.0 f.1.0)
 here c = told_room _ _ c.step_at.ensures c.in-Room.is
@@ -34,19 +34,19 @@ returns-in-Close c =
     c.ended-in-Close.ensures ∙ going_closed _ _ c.loop-here.invariant (told_close _ _ c.step_at.ensures c.in-Close.is)
 
 pub past-slot-requires : goal.past-slot-requires
-past-slot-requires c = let t = here c.before.before in omega (arith, t.end)
+past-slot-requires c = let t = here (goal.at.past-slot-requires c).In-Room in omega (arith, t.end)
 
 pub loop-here-smaller : goal.loop-here-smaller
 unfolding past
 loop-here-smaller c =
-    let t = here c.before.before.before in
+    let t = here (goal.at.loop-here-smaller c).In-Room in
     let h = holding _ _ t.is in
     let e : c.past-slot.result.bytes ≡ c.in-Room.next = ap (λ m. m.bytes) c.past-slot.ensures in
     omega (arith, h.inside, t.end)
 
 pub loop-here-preserved : goal.loop-here-preserved
 loop-here-preserved c =
-    let k = c.before.before.before in
+    let k = (goal.at.loop-here-preserved c).In-Room in
     let v = c.first-rising.ensures ∙ ap (λ w. verdict_of k.loop-here.rising then w) c.refuse.ensures in
     rw (v, c.past-slot.ensures) (going_on _ _ k.loop-here.invariant (here k))
 

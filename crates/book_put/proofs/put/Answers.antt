@@ -12,7 +12,7 @@ walks : (c : In-Sound) → (let a = c.before.before.before.before.before.before.
 walks c = walk-sound _ _ (sym c.walk.ensures ∙ ap walked_of c.in-Sound.is)
 
 pub put_at-requires : goal.put_at-requires
-put_at-requires c = let k = c.before.before.before.before in sym k.walk.ensures ∙ ap walked_of k.in-Sound.is
+put_at-requires c = let k = (goal.at.put_at-requires c).In-Sound in sym k.walk.ensures ∙ ap walked_of k.in-Sound.is
 
 pub returns-in-Refused : goal.returns-in-Refused
 returns-in-Refused c =
@@ -20,12 +20,12 @@ returns-in-Refused c =
 
 pub returns-in-Refused-own : goal.returns-in-Refused-own
 returns-in-Refused-own c =
-    let k = c.before.before.before.before.before in
+    let k = (goal.at.returns-in-Refused-own c).In-Sound in
     puts-refused (put_of (walks k) _ (sym (step_refuses _ c.own.ensures c.in-Refused-own.is))) c.refused-in-Refused-own.ensures
 
 pub returns-in-Accepted : goal.returns-in-Accepted
 returns-in-Accepted c =
-    let k = c.before.before.before.before.before.before.before in
+    let k = (goal.at.returns-in-Accepted c).In-Sound in
     let w = walks k in
     let e = put_of w _ (sym (step_passes _ c.own.ensures c.in-Accepted.is refl)) ∙ sym (made_of w _ refl) in
     rw e c.put_at.ensures

@@ -9,14 +9,15 @@ use Rattle.little_endian.proofs.Stores.{then}
 use Rattle.record.specs.Record.{header}
 use Rattle.book.specs.Book.{entry_bytes}
 use Rattle.book_put.proofs.put_record.Goals as goal
+use Rattle.book_put.proofs.put_record.Goals.{After-copy_in, After-write_u16, After-write_u16-2, After-write_u16-3}
 
 pub returns : goal.returns
 unfolding entry_bytes header
 returns c =
-    let e = c.before.before in
-    let third = e.before.before.before.before in
-    let second = third.before.before.before.before in
-    let first = second.before.before.before.before in
+    let e = (goal.at.returns c).After-copy_in in
+    let third = (goal.at.After-copy_in e).After-write_u16-3 in
+    let second = (goal.at.After-write_u16-3 third).After-write_u16-2 in
+    let first = (goal.at.After-write_u16-2 second).After-write_u16 in
     let a = first.args in
     let s = a.buffer.now in
     let n = le 2 (2 + length a.card.now) in

@@ -10,11 +10,12 @@ use Rattle.book_put.specs.Put.{entry}
 use Rattle.book_put.proofs.Bytes.{length_entry}
 use Rattle.book_put.proofs.Splicing.{spliced_by}
 use Rattle.book_put.proofs.splice.Goals as goal
+use Rattle.book_put.proofs.splice.Goals.{After-put_record, After-slide}
 
 pub returns : goal.returns
 returns c =
-    let e = c.before.before in
-    let f = e.before.before.before.before in
+    let e = (goal.at.returns c).After-put_record in
+    let f = (goal.at.After-put_record e).After-slide in
     let a = f.args in
     let d = entry a.room a.card.now in
     e.put_record.ensures ∙ ap (λ x. sets x a.at (entry_bytes d)) f.slide.ensures

@@ -43,24 +43,24 @@ answered : (c : After-into-verdict) {r : Checked}
 answered c e = checked_same _ e (verdict_is c) (opened_kind c.by_head-opened.ensures) (λ v. (holds c (verdict_is c ∙ v)).is)
 
 pub of-requires : goal.of-requires
-of-requires c e = (holds c.before.before e).full
+of-requires c e = (holds (goal.at.of-requires c).After-into-verdict e).full
 
 pub returns-in-Refused : goal.returns-in-Refused
 returns-in-Refused c =
-    let i = c.before.before.before in
+    let i = (goal.at.returns-in-Refused c).After-into-verdict in
     reads_refused (lent i) (bytes i) (answered i c.of.ensures) (step_refused (verdict_is i) c.in-Refused.is)
 
 pub give-requires : goal.give-requires
 give-requires c =
-    let i = c.before.before.before.before.before.before in
+    let i = (goal.at.give-requires c).After-into-verdict in
     let e = ap verdict_of c.in_default.is in
     let t = took i e in record { full = (holds i e).full; knots_in_bounds = (omega (arith, t.room, knots_held (holds i e)), t.ordinates, t.slopes, t.curvatures) }
 
 pub of-requires-2 : goal.of-requires-2
-of-requires-2 c e = (holds c.before.before.before.before.before.before.before.before.before.before.before.before e).full
+of-requires-2 c e = (holds (goal.at.of-requires-2 c).After-into-verdict e).full
 
 pub returns : goal.returns
 returns c =
-    let i = c.before.before.before.before.before.before.before.before.before.before.before.before.before in
+    let i = (goal.at.returns c).After-into-verdict in
     let e = ap verdict_of c.in_default.is in
     reads_given (lent i) (bytes i) (answered i c.of-2.ensures) (sym (verdict_is i) ∙ e) (holds i e) c.give.ensures

@@ -8,6 +8,7 @@ use Rattle.curve.specs.Card.{knots}
 use Rattle.decode.specs.Decoded.{decoded}
 use borrow.Author.Rules.{rules}
 use Rattle.card.proofs.read_off.Goals as goal
+use Rattle.card.proofs.read_off.Goals.{Start}
 
 pub slice_bounds-read_at-end : goal.slice_bounds-read_at-end
 slice_bounds-read_at-end c = sym (length-take-le _ _ c.requires.full.minutes)
@@ -24,7 +25,7 @@ slice_bounds-read_at-end-4 c = sym (length-take-le _ _ c.requires.full.curvature
 pub read_at-requires : goal.read_at-requires
 unfolding decoded knots quintic
 read_at-requires c =
-    let s = c.before.before.before.before.before.before.before.before in record { checked = s.requires.checked; in_bounds = omega (arith, s.requires.some) }
+    let s = (goal.at.read_at-requires c).Start in record { checked = s.requires.checked; in_bounds = omega (arith, s.requires.some) }
 
 pub returns : goal.returns
 unfolding decoded

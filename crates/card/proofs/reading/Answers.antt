@@ -26,7 +26,7 @@ returns-in-Refused c = c.refused.ensures ∙ ap (answered _) (step_refuses _ c.b
 pub returns-in-Accepted : goal.returns-in-Accepted
 unfolding read_off
 returns-in-Accepted c =
-    let e = accepts c.before in
+    let e = accepts (goal.at.returns-in-Accepted c).In-Accepted in
     let s = c.args.card.now in
     let minute = c.args.minute in
     let h = accepted_holds c.by_head-opened.ensures e in

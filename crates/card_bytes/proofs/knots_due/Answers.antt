@@ -7,6 +7,7 @@ use Rattle.answer.proofs.Loops.{Rest, rest_starts, rest_passes, rest_stops, rest
 use Rattle.card_bytes.specs.Records.{due, knot_due}
 use borrow.Author.Rules.{rules}
 use Rattle.card_bytes.proofs.knots_due.Goals as goal
+use Rattle.card_bytes.proofs.knots_due.Goals.{At-loop-i}
 
 pub loop-i-init : goal.loop-i-init
 loop-i-init c = rest_starts
@@ -14,13 +15,13 @@ loop-i-init c = rest_starts
 pub loop-i-preserved : goal.loop-i-preserved
 unfolding knot_due due refuse
 loop-i-preserved c =
-    let l = c.before.before.before in
+    let l = (goal.at.loop-i-preserved c).At-loop-i in
     rest_passes l.loop-i.invariant c.loop-i-test.true (rw (sym c.is_at.ensures ∙ c.if-is_at.true))
 
 pub returns-else-is_at : goal.returns-else-is_at
 unfolding knot_due due refuse
 returns-else-is_at c =
-    let l = c.before.before.before in
+    let l = (goal.at.returns-else-is_at c).At-loop-i in
     rest_stops l.loop-i.invariant c.loop-i-test.true (rw (sym c.is_at.ensures ∙ c.if-is_at.false))
 
 pub returns : goal.returns

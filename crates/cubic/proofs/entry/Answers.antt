@@ -16,9 +16,6 @@ use Rattle.cubic.specs.Cubic.{most_values, a, largest}
 use Rattle.cubic.proofs.Table.{entries, rule, as_held, entry_most}
 use Rattle.cubic.proofs.entry.Goals as goal
 
-bounds-place : goal.LOST-array-copy-out-result
-bounds-place c = search rules
-
 is : (k : ℕ) → k + 2 ≤ most_values → get_or (map pos entries) k (pos 0) ≡ pos (a k)
 is k h = as_held entries k ∙ ap pos (rule k (omega arith))
 

@@ -17,6 +17,7 @@ use Rattle.card_bytes.specs.Held.{start}
 use Rattle.card_bytes.proofs.Rows.{rows_more}
 use Rattle.card_bytes.proofs.Sizes.{length_head, length_knots}
 use Rattle.encode.proofs.put_card.Goals as goal
+use Rattle.encode.proofs.put_card.Goals.{After-put_knot, At-loop-row}
 
 pub loop-row-init : goal.loop-row-init
 unfolding rows
@@ -25,8 +26,8 @@ loop-row-init c = (omega arith, refl, refl)
 pub loop-row-preserved : goal.loop-row-preserved
 unfolding knot_row knot
 loop-row-preserved c =
-    let e = c.before.before in
-    let l = c.before.before.before.before.before.before.before.before.before in
+    let e = (goal.at.loop-row-preserved c).After-put_knot in
+    let l = (goal.at.loop-row-preserved c).At-loop-row in
     let a = l.args in
     let i = l.loop-row.row in
     let k = lent a.minutes.now a.ordinates.now a.slopes.now a.curvatures.now a.left a.right in
@@ -42,7 +43,7 @@ loop-row-preserved c =
 pub returns : goal.returns
 unfolding bytes_of knots
 returns c =
-    let l = c.before.before.before.before.before in
+    let l = (goal.at.returns c).At-loop-row in
     let a = l.args in
     let n = length a.minutes.now in
     let k = lent a.minutes.now a.ordinates.now a.slopes.now a.curvatures.now a.left a.right in

@@ -9,15 +9,16 @@ use Rattle.little_endian.proofs.Stores.{then}
 use Rattle.card_bytes.specs.Bytes.{head_bytes}
 use borrow.Author.Rules.{rules}
 use Rattle.encode.proofs.put_head.Goals as goal
+use Rattle.encode.proofs.put_head.Goals.{After-write_u16, After-write_u16-2, After-write_u16-3, After-write_u16-4, After-write_u16-5}
 
 pub returns : goal.returns
 unfolding head_bytes header
 returns c =
-    let e5 = c.before.before in
-    let e4 = e5.before.before.before.before in
-    let e3 = e4.before.before.before.before in
-    let e2 = e3.before.before.before.before in
-    let e1 = e2.before.before.before.before in
+    let e5 = (goal.at.returns c).After-write_u16-5 in
+    let e4 = (goal.at.After-write_u16-5 e5).After-write_u16-4 in
+    let e3 = (goal.at.After-write_u16-4 e4).After-write_u16-3 in
+    let e2 = (goal.at.After-write_u16-3 e3).After-write_u16-2 in
+    let e1 = (goal.at.After-write_u16-2 e2).After-write_u16 in
     let a = e1.args in
     let d = a.buffer.now in
     let h = le 2 6 ++ le 2 a.head in

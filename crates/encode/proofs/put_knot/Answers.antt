@@ -12,16 +12,17 @@ use Rattle.little_endian.proofs.Stores.{then}
 use Rattle.card_bytes.specs.Bytes.{knot_bytes}
 use borrow.Author.Rules.{rules}
 use Rattle.encode.proofs.put_knot.Goals as goal
+use Rattle.encode.proofs.put_knot.Goals.{After-write_i16, After-write_i32, After-write_i32-2, After-write_u16, After-write_u16-2, After-write_u16-3}
 
 pub returns : goal.returns
 unfolding knot_bytes header
 returns c =
-    let e6 = c.before.before in
-    let e5 = e6.before.before.before.before in
-    let e4 = e5.before.before.before.before in
-    let e3 = e4.before.before.before.before in
-    let e2 = e3.before.before.before.before in
-    let e1 = e2.before.before.before.before in
+    let e6 = (goal.at.returns c).After-write_i32-2 in
+    let e5 = (goal.at.After-write_i32-2 e6).After-write_i32 in
+    let e4 = (goal.at.After-write_i32 e5).After-write_i16 in
+    let e3 = (goal.at.After-write_i16 e4).After-write_u16-3 in
+    let e2 = (goal.at.After-write_u16-3 e3).After-write_u16-2 in
+    let e1 = (goal.at.After-write_u16-2 e2).After-write_u16 in
     let a = e1.args in
     let f = e1.ranges in
     let d = a.buffer.now in

@@ -15,7 +15,7 @@ use Rattle.opened.proofs.Opening.{opened_kind, accepted_holds, accepted_readable
 use Rattle.explain.specs.Explain.{reason, explained, explain, sizes}
 use Rattle.explain.proofs.Told.{ten_explained, other_explained, accepted_explained, reason_sizes}
 use Rattle.explain.proofs.explain.Goals as goal
-use Rattle.explain.proofs.explain.Goals.{In-Accepted, Then-number-eq10}
+use Rattle.explain.proofs.explain.Goals.{In-Accepted, In-Refused-2, Then-number-eq10}
 
 accepts : (c : In-Accepted) → own c.args.card.now ≡ accepted
 accepts c = step_accepts c.by_head-opened.ensures.judged c.in-Accepted.is
@@ -26,7 +26,7 @@ off-requires c = accepted_readable c.by_head-opened.ensures (accepts c)
 pub returns-in-Accepted : goal.returns-in-Accepted
 unfolding explain
 returns-in-Accepted c =
-    let e = c.before in
+    let e = (goal.at.returns-in-Accepted c).In-Accepted in
     let b = e.by_head-opened in
     let a = e.args in
     let s = a.card.now in
@@ -36,7 +36,7 @@ returns-in-Accepted c =
 
 jumped : (c : Then-number-eq10) → own c.args.card.now ≡ refused 10 c.in-Refused.place
 jumped c =
-    let v = c.before.before in
+    let v = (goal.at.Then-number-eq10 c).In-Refused-2 in
     step_refused v.by_head-opened.ensures.judged v.in-Refused.is ∙ ap (λ n. refused n v.in-Refused.place) c.if-number-eq10.true
 
 pub why-requires : goal.why-requires
@@ -46,8 +46,8 @@ why-requires c =
 pub returns-then-number-eq10 : goal.returns-then-number-eq10
 unfolding explain
 returns-then-number-eq10 c =
-    let t = c.before in
-    let v = t.before.before in
+    let t = (goal.at.returns-then-number-eq10 c).Then-number-eq10 in
+    let v = (goal.at.Then-number-eq10 t).In-Refused-2 in
     let b = v.by_head-opened in
     let a = v.args in
     let s = a.card.now in
@@ -63,7 +63,7 @@ returns-then-number-eq10 c =
 pub returns-else-number-eq10 : goal.returns-else-number-eq10
 unfolding explain sizes
 returns-else-number-eq10 c =
-    let v = c.before.before.before in
+    let v = (goal.at.returns-else-number-eq10 c).In-Refused-2 in
     let a = v.args in
     let s = a.card.now in (
       c.refused.ensures ∙ other_explained (kind_by s) (card_of s) a.minute c.if-number-eq10.false (step_refused v.by_head-opened.ensures.judged v.in-Refused.is),

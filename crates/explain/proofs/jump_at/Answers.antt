@@ -49,7 +49,7 @@ module _ {q h q' h' : ℤ} {b k a b' k' a' : Knot} (e : Handed q h q' h' b k a b
   leeways_same o f = rw (f, e.q-is, e.h_is)
 
 abbrev start : After-right_gap-h → Start
-start c = c.before.before.before.before.before.before.before.before
+start c = (goal.at.After-right_gap-h c).Start
 
 abbrev numbers : Start → ℕ → Knot
 numbers c = numbers_at c.args.ys.now c.args.ms.now c.args.cs.now
@@ -64,8 +64,8 @@ handed : (c : After-right_gap-h) →
     (numbers d (back d.args.i)) (numbers d d.args.i) (numbers d (after d)))
 handed c =
     record {
-      q_is = to_z_pos w64 (omega (arith, c.left_gap-q.type-inv)) ∙ ap pos c.left_gap-q.ensures;
-      h_is = to_z_pos w64 (omega (arith, c.right_gap-h.type-inv)) ∙ ap pos c.right_gap-h.ensures;
+      q_is = to_z_pos w64 (omega (arith, c.left_gap-q.type_inv)) ∙ ap pos c.left_gap-q.ensures;
+      h_is = to_z_pos w64 (omega (arith, c.right_gap-h.type_inv)) ∙ ap pos c.right_gap-h.ensures;
       before_is = c.knot_at-before.ensures ∙ ap (numbers (start c)) c.back.ensures;
       here_is = c.knot_at-here.ensures;
       after_is = c.knot_at-after.ensures ∙ ap (numbers (start c)) c.on.ensures;
@@ -76,7 +76,7 @@ beside c = (settled_knot c.requires.checked c.args.i c.requires.i_in_bounds 0 (o
 
 pub knot_at-before-requires : goal.knot_at-before-requires
 knot_at-before-requires c =
-    let d = c.before.before in
+    let d = (goal.at.knot_at-before-requires c).Start in
     let l = d.requires.checked.long in
     let b : c.back.result ≤ d.args.i = subst (λ j. j ≤ d.args.i) (sym c.back.ensures) (back_below d.args.i) in
     (omega (arith, d.requires.i_in_bounds, l.ordinates), omega (arith, d.requires.i_in_bounds, l.slopes), omega (arith, d.requires.i_in_bounds, l.curvatures))
@@ -87,40 +87,40 @@ jump-requires c = beside_same (handed c) (beside (start c))
 -- ---- what they give
 
 jump_is : (c : After-jump) → to_z w64 (of_z w64 c.jump.result) ≡ c.jump.result
-jump_is c = to_z-of_z {w = w64} {z = c.jump.result} (record { sfits = c.jump.type-inv })
+jump_is c = to_z-of_z {w = w64} {z = c.jump.result} (record { sfits = c.jump.type_inv })
 
 pub size-requires : goal.size-requires
 size-requires c =
-    let g = c.before in
+    let g = (goal.at.size-requires c).After-right_gap-h in
     let o = (start g).args.order in
     rw (jump_is c, c.jump.ensures, jump_same (handed g) o) (jump_fits (beside (start g)) o)
 
-squares_is : (c : After-squares) → to_z w64 (of_z w64 c.squares.result) ≡ (let a = (start c.before.before.before).args in pos (square_of a.kind a.order))
-squares_is c = to_z-of_z {w = w64} {z = c.squares.result} (record { sfits = c.squares.type-inv }) ∙ c.squares.ensures.0
+squares_is : (c : After-squares) → to_z w64 (of_z w64 c.squares.result) ≡ (let a = (start (goal.at.After-squares c).After-right_gap-h).args in pos (square_of a.kind a.order))
+squares_is c = to_z-of_z {w = w64} {z = c.squares.result} (record { sfits = c.squares.type_inv }) ∙ c.squares.ensures.0
 
 pub allowance-requires : goal.allowance-requires
 allowance-requires c =
-    let g = c.before.before.before in
+    let g = (goal.at.allowance-requires c).After-right_gap-h in
     allowed_same (handed g) (squares_is c) c.squares.ensures.1 (beside (start g))
 
 pub returns : goal.returns
 unfolding jump_at
 returns c left right =
-    let g = c.before.before.before.before in
+    let g = (goal.at.returns c).After-right_gap-h in
     let a = (start g).args in
     let k = (start g).requires in
     let size = c.size in
     λ j.
     record {
       size =
-          (to_z-of_z {w = w64} {z = size.result} (record { sfits = size.type-inv })
+          (to_z-of_z {w = w64} {z = size.result} (record { sfits = size.type_inv })
           ∙ size.ensures
           ∙ ap (λ z. pos (nat_abs z))
-          (jump_is c.before.before.before ∙ c.jump.ensures ∙ jump_same (handed g) a.order
+          (jump_is (goal.at.returns c).After-jump ∙ c.jump.ensures ∙ jump_same (handed g) a.order
           ∙ sym (jump_there a.kind a.order left right a.xs.now a.ys.now a.ms.now a.cs.now a.i k.0 k.1))) j;
       allowance =
-          (to_z-of_z {w = w64} {z = c.allowance.result} (record { sfits = c.allowance.type-inv })
+          (to_z-of_z {w = w64} {z = c.allowance.result} (record { sfits = c.allowance.type_inv })
           ∙ c.allowance.ensures
-          ∙ leeways_same (handed g) a.order (squares_is c.before)
+          ∙ leeways_same (handed g) a.order (squares_is (goal.at.returns c).After-squares)
           ∙ sym (allowed_there a.kind a.order left right a.xs.now a.ys.now a.ms.now a.cs.now a.i)) j;
     }

@@ -8,11 +8,12 @@ use Rattle.curve.specs.Card.{knots}
 use Rattle.decode.specs.Decoded.{decoded}
 use borrow.Author.Rules.{rules}
 use Rattle.explain.proofs.off.Goals as goal
+use Rattle.explain.proofs.off.Goals.{Start}
 
 pub parts_at-requires : goal.parts_at-requires
 unfolding decoded knots quintic
 parts_at-requires c =
-    let s = c.before.before.before.before.before.before.before.before in record { checked = s.requires.checked; in_bounds = omega (arith, s.requires.some) }
+    let s = (goal.at.parts_at-requires c).Start in record { checked = s.requires.checked; in_bounds = omega (arith, s.requires.some) }
 
 pub returns : goal.returns
 unfolding decoded

@@ -28,7 +28,7 @@ use Rattle.explain.proofs.parted.Goals.{After-denominator, After-of-parts, After
 
 module _ (c : After-struct_told-2-1) where
   abbrev d : Start
-  d = c.before.before.before.before
+  d = (goal.at.After-struct_told-2-1 c).Start
 
   abbrev spell : Spell
   spell = c.spell_at-spell.result
@@ -56,38 +56,38 @@ module _ (c : After-struct_told-2-1) where
 
 pub of-parts-requires : goal.of-parts-requires
 of-parts-requires c =
-    let s = c.before.before in
-    spelt_asks (d s).requires.0 (d s).requires.1 s.spell_at-spell.ensures (kept_h s) (kept_t s)
+    let s = (goal.at.of-parts-requires c).After-struct_told-2-1 in
+    spelt_asks (d s).requires.checked (d s).requires.in_place s.spell_at-spell.ensures (kept_h s) (kept_t s)
 
-parts_are : (c : After-of-parts) → (let s = c.before.before.before in c.of-parts.result ≡ parts_from (card s) (d s).args.i (d s).args.minute)
+parts_are : (c : After-of-parts) → (let s = (goal.at.After-of-parts c).After-struct_told-2-1 in c.of-parts.result ≡ parts_from (card s) (d s).args.i (d s).args.minute)
 unfolding parts_from knot gap
 parts_are c =
-    let s = c.before.before.before in
+    let s = (goal.at.After-of-parts c).After-struct_told-2-1 in
     c.of-parts.ensures
     ∙ ap₂ (λ h t. parts Value h t (spell s).from (spell s).to) (kept_h s) (kept_t s)
     ∙ ap (λ (s : Spell). parts Value s.h s.t s.from s.to) s.spell_at-spell.ensures
 
 pub overflow_cast-result-2 : goal.overflow_cast-result-2
-overflow_cast-result-2 c = let s = c.before.before.before.before.before in subst (λ z. T (non_neg z) × Fits w32 (nat_abs z)) (sym (t_is s)) (tt, record { fits = omega (arith, (d s).ranges.minute) })
+overflow_cast-result-2 c = let s = (goal.at.overflow_cast-result-2 c).After-struct_told-2-1 in subst (λ z. T (non_neg z) × Fits w32 (nat_abs z)) (sym (t_is s)) (tt, record { fits = omega (arith, (d s).ranges.minute) })
 
 pub denominator-requires : goal.denominator-requires
-denominator-requires c = let s = c.before.before.before.before.before in subst (λ z. InGap z z) (sym (h_is s)) (whole_gap (d s).requires.0 (d s).requires.1)
+denominator-requires c = let s = (goal.at.denominator-requires c).After-struct_told-2-1 in subst (λ z. InGap z z) (sym (h_is s)) (whole_gap (d s).requires.checked (d s).requires.in_place)
 
-under_is : (c : After-denominator) → (let s = c.before.before.before.before.before.before in c.denominator.result ≡ 8192 * h s ^ 5)
-under_is c = c.denominator.ensures ∙ ap (λ z. 8192 * nat_abs z ^ 5) (h_is c.before.before.before.before.before.before)
+under_is : (c : After-denominator) → (let s = (goal.at.After-denominator c).After-struct_told-2-1 in c.denominator.result ≡ 8192 * h s ^ 5)
+under_is c = c.denominator.ensures ∙ ap (λ z. 8192 * nat_abs z ^ 5) (h_is (goal.at.After-denominator c).After-struct_told-2-1)
 
 under_small : (c : After-denominator) → c.denominator.result < 2 ^ 63
-under_small c = let s = c.before.before.before.before.before.before in rw (under_is c) (under_fits (d s).requires.0 (d s).requires.1)
+under_small c = let s = (goal.at.After-denominator c).After-struct_told-2-1 in rw (under_is c) (under_fits (d s).requires.checked (d s).requires.in_place)
 
 module _ (c : After-struct_told-4-1) where
   abbrev s : After-struct_told-2-1
-  s = c.before.before.before.before.before.before.before.before
+  s = (goal.at.After-struct_told-4-1 c).After-struct_told-2-1
 
   abbrev p : Parts
   p = c.of-parts.result
 
   abbrev parts_is : p ≡ parts_from (card s) (d s).args.i (d s).args.minute
-  parts_is = parts_are c.before.before.before.before.before
+  parts_is = parts_are (goal.at.After-struct_told-4-1 c).After-of-parts
 
   passed : (z : ℤ) → SFits w64 z → to_z w64 (of_z w64 z) ≡ z
   passed z f = to_z-of_z {w = w64} {z = z} f
@@ -127,7 +127,7 @@ module _ (c : After-struct_told-4-1) where
         slope1 = (passed p.right.slope (record { sfits = r.1.0.1 }) ∙ ap (λ p. p.right.slope) parts_is) j;
         curvature = (passed p.left.curvature (record { sfits = l.1.1.0.1 }) ∙ ap (λ p. p.left.curvature) parts_is) j;
         curvature1 = (passed p.right.curvature (record { sfits = r.1.1.0.1 }) ∙ ap (λ p. p.right.curvature) parts_is) j;
-        denominator = (to_z_pos w64 (under_small c.before.before) ∙ ap pos (under_is c.before.before)) j;
+        denominator = (to_z_pos w64 (under_small (goal.at.After-struct_told-4-1 c).After-denominator) ∙ ap pos (under_is (goal.at.After-struct_told-4-1 c).After-denominator)) j;
         knot = 0;
         order = 0;
         jump = pos 0;
@@ -136,7 +136,7 @@ module _ (c : After-struct_told-4-1) where
 
 pub returns : goal.returns
 returns c =
-    record { value = answer_is c; fits = subst (λ e. sizes e < 2 ^ 63) (sym (answer_is c)) (parted_fits (d (s c)).pre.0 (d (s c)).pre.1) }
+    record { value = answer_is c; fits = subst (λ e. sizes e < 2 ^ 63) (sym (answer_is c)) (parted_fits (d (s c)).requires.checked (d (s c)).requires.in_place) }
 
 pub overflow_cast-result-3 : goal.overflow_cast-result-3
 overflow_cast-result-3 c = record { sfits = under_small c }

@@ -17,19 +17,19 @@ use Rattle.explain.proofs.parts_at.Goals as goal
 use Rattle.explain.proofs.parts_at.Goals.{After-find-gap, In-Accepted, Start}
 
 abbrev start : In-Accepted → Start
-start c = c.before.before.before.before
+start c = (goal.at.In-Accepted c).Start
 
 inside : (c : In-Accepted) → outside (start c).args.xs.now (start c).args.minute ≡ accepted
 inside c = step_accepts c.outside.ensures c.in-Accepted.is
 
 -- the gap that the looks leave is the minute's
-left_is : (c : After-find-gap) → (let a = (start c.before).args in (c.find-gap.result.first ≡ gap_of a.xs.now a.minute) × InPlace a.xs.now c.find-gap.result.first a.minute)
-left_is c = let d = start c.before in found_place d.pre.0 d.pre.1 (inside c.before) c.find-gap.ensures
+left_is : (c : After-find-gap) → (let a = (start (goal.at.After-find-gap c).In-Accepted).args in (c.find-gap.result.first ≡ gap_of a.xs.now a.minute) × InPlace a.xs.now c.find-gap.result.first a.minute)
+left_is c = let d = start (goal.at.After-find-gap c).In-Accepted in found_place d.requires.checked d.requires.in_bounds (inside (goal.at.After-find-gap c).In-Accepted) c.find-gap.ensures
 
 pub returns-in-Refused : goal.returns-in-Refused
 unfolding sizes
 returns-in-Refused c =
-    let d = c.before.before.before.before.before.before in
+    let d = (goal.at.returns-in-Refused c).Start in
     let a = d.args in
     let e = step_refused c.outside.ensures c.in-Refused.is in
     (λ K left right. c.refused.ensures ∙ outside_explained K (lent a.xs.now a.ys.now a.ms.now a.cs.now left right) a.minute e, rw c.refused.ensures (omega arith))
@@ -37,14 +37,14 @@ returns-in-Refused c =
 pub returns-in-Accepted : goal.returns-in-Accepted
 unfolding parted parts_from knot
 returns-in-Accepted c =
-    let d = start c.before.before in
+    let d = start (goal.at.returns-in-Accepted c).In-Accepted in
     let a = d.args in (
       λ K left right.
           let card = lent a.xs.now a.ys.now a.ms.now a.cs.now left right in
-          c.parted.ensures.0 ∙ ap (λ i. parted card i a.minute) (left_is c.before).0 ∙ inside_explained K card a.minute (inside c.before.before),
+          c.parted.ensures.0 ∙ ap (λ i. parted card i a.minute) (left_is (goal.at.returns-in-Accepted c).After-find-gap).0 ∙ inside_explained K card a.minute (inside (goal.at.returns-in-Accepted c).In-Accepted),
       c.parted.ensures.1,
     )
 
 pub parted-requires : goal.parted-requires
 parted-requires c =
-    record { checked = (start c.before).requires.0; in_place = (left_is c).1 }
+    record { checked = (start (goal.at.parted-requires c).In-Accepted).requires.checked; in_place = (left_is c).1 }

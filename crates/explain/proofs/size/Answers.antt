@@ -26,15 +26,15 @@ below (negsuc n) l = refl
 
 pub returns-then-jump-lt0 : goal.returns-then-jump-lt0
 returns-then-jump-lt0 c =
-    let d = c.before in
+    let d = (goal.at.returns-then-jump-lt0 c).Start in
     gave w64 (args d) (:neg v0) (turned d)
     ∙ below d.args.jump (lt_z_true {a = d.args.jump} {b = pos 0} (told w64 (args d) (v0 ∷ []) (λ z. lt_z z (pos 0) ≡ true) (d.ranges.jump, tt) c.if-jump-lt0.true))
 
 pub returns : goal.returns
 returns c =
-    let d = c.before in
+    let d = (goal.at.returns c).Start in
     gave w64 (args d) v0 d.ranges.jump
     ∙ sym (natural d.args.jump (lt_z_false {a = d.args.jump} {b = pos 0} (told w64 (args d) (v0 ∷ []) (λ z. lt_z z (pos 0) ≡ false) (d.ranges.jump, tt) c.if-jump-lt0.false)))
 
 pub overflow_sub-result : goal.overflow_sub-result
-overflow_sub-result c = does w64 (args c.before) (:neg v0) (turned c.before)
+overflow_sub-result c = does w64 (args (goal.at.overflow_sub-result c).Start) (:neg v0) (turned (goal.at.overflow_sub-result c).Start)

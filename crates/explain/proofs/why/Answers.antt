@@ -6,10 +6,11 @@ use lib.Seq.{length-take-le}
 use Rattle.decode.specs.Decoded.{decoded}
 use borrow.Author.Rules.{rules}
 use Rattle.explain.proofs.why.Goals as goal
+use Rattle.explain.proofs.why.Goals.{Start}
 
 pub reason-requires : goal.reason-requires
 reason-requires c =
-    let s = c.before.before.before.before.before.before.before.before in record { checked = s.requires.readable.checked; i_in_bounds = omega (arith, s.requires.place_lt_knots, length-take-le s.args.card.knots s.args.card.minutes s.requires.readable.full.minutes) }
+    let s = (goal.at.reason-requires c).Start in record { checked = s.requires.readable.checked; i_in_bounds = omega (arith, s.requires.place_lt_knots, length-take-le s.args.card.knots s.args.card.minutes s.requires.readable.full.minutes) }
 
 pub returns : goal.returns
 unfolding decoded

@@ -5,13 +5,14 @@ use Rattle.fit.proofs.Fitting.{fits_along, fits_refused}
 use Rattle.fit.proofs.Order.{in_groups, sized_alike}
 use borrow.Author.Rules.{rules}
 use Rattle.fit.proofs.fit_into.Goals as goal
+use Rattle.fit.proofs.fit_into.Goals.{After-sized-sized}
 
 pub stand_and_solve-requires : goal.stand_and_solve-requires
 stand_and_solve-requires c = sized_alike _ _ _ _ _ (step_accepts c.sized-sized.ensures c.in-Accepted.is)
 
 pub returns-in-Accepted : goal.returns-in-Accepted
 returns-in-Accepted c =
-    let s = c.before.before.before.before.before.before.before in
+    let s = (goal.at.returns-in-Accepted c).After-sized-sized in
     fits_along (step_passes _ s.sized-sized.ensures c.in-Accepted.is refl ∙ in_groups _ _ _ _ _ _ _) c.stand_and_solve.ensures
 
 pub returns-in-Refused : goal.returns-in-Refused

@@ -27,20 +27,20 @@ room c =
     (omega (arith, m, c.requires.minutes_len_bound), omega (arith, M, c.requires.minutes_len_bound))
 
 pub slice_bounds-m-end : goal.slice_bounds-m-end
-slice_bounds-m-end c = (room c.before.before.before.before.before.before).0
+slice_bounds-m-end c = (room (goal.at.slice_bounds-m-end c).Start).0
 
 pub slice_bounds-numbers_sound-end : goal.slice_bounds-numbers_sound-end
-slice_bounds-numbers_sound-end c = sym (length-take-le _ _ (room c.before.before.before.before.before.before.before).0)
+slice_bounds-numbers_sound-end c = sym (length-take-le _ _ (room (goal.at.slice_bounds-numbers_sound-end c).Start).0)
 
 pub slice_bounds-c-end : goal.slice_bounds-c-end
-slice_bounds-c-end c = (room c.before.before.before.before.before.before.before).1
+slice_bounds-c-end c = (room (goal.at.slice_bounds-c-end c).Start).1
 
 pub slice_bounds-numbers_sound-end-2 : goal.slice_bounds-numbers_sound-end-2
-slice_bounds-numbers_sound-end-2 c = sym (length-take-le _ _ (room c.before.before.before.before.before.before.before.before).1)
+slice_bounds-numbers_sound-end-2 c = sym (length-take-le _ _ (room (goal.at.slice_bounds-numbers_sound-end-2 c).Start).1)
 
 pub numbers_sound-requires : goal.numbers_sound-requires
 numbers_sound-requires c =
-    let s = c.before.before.before.before.before.before.before.before in record { long = record { few = omega (arith, s.requires.minutes_len_bound); ordinates = s.requires.minutes_len_bound.1; slopes = length-take-le _ _ (room s).0; curvatures = length-take-le _ _ (room s).1 }; xs_value = s.requires.minutes_value }
+    let s = (goal.at.numbers_sound-requires c).Start in record { long = record { few = omega (arith, s.requires.minutes_len_bound); ordinates = s.requires.minutes_len_bound.1; slopes = length-take-le _ _ (room s).0; curvatures = length-take-le _ _ (room s).1 }; xs_value = s.requires.minutes_value }
 
 pub returns : goal.returns
 returns c =

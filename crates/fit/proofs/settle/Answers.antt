@@ -6,6 +6,7 @@ use Rattle.fit.specs.Fit.{tested}
 use Rattle.fit.proofs.Fitting.{fits_along, fits_refused, fits_given}
 use borrow.Author.Rules.{rules}
 use Rattle.fit.proofs.settle.Goals as goal
+use Rattle.fit.proofs.settle.Goals.{Start}
 
 pub write-requires : goal.write-requires
 write-requires c = search rules
@@ -17,7 +18,7 @@ returns-in-Refused c = fits_along (step_refuses _ c.judge-sound.ensures c.in-Ref
 pub returns-in-Accepted : goal.returns-in-Accepted
 unfolding tested
 returns-in-Accepted c =
-    let s = c.before.before.before.before.before.before.before.before.before.before.before.before in
+    let s = (goal.at.returns-in-Accepted c).Start in
     let x = s.args.numbers in
     fits_along
     (step_passes _ c.judge-sound.ensures c.in-Accepted.is refl)

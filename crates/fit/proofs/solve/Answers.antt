@@ -12,13 +12,13 @@ use borrow.Author.Rules.{rules}
 use Rattle.fit.proofs.solve.Goals as goal
 
 pub pairs_of-solved-requires : goal.pairs_of-solved-requires
-pairs_of-solved-requires c = let s = c.before.before in ((s.requires.0.many, s.requires.0.ordinates, s.requires.0.slopes), (stood s.requires.1).rising)
+pairs_of-solved-requires c = let s = c.before.before in ((s.requires.alike.many, s.requires.alike.ordinates, s.requires.alike.slopes), (stood s.requires.minutes_value).rising)
 
 pub scale-numbers-requires : goal.scale-numbers-requires
 scale-numbers-requires c =
     let s = c.before.before.before.before.before.before in
     let p = c.pairs_of-solved in
-    (s.requires.0.many, λ k h. ap (λ (q : Solved). both_finite (get_or q.pairs k no_pair)) p.ensures ∙ pairs-finite _ _ _ k h)
+    (s.requires.alike.many, λ k h. ap (λ (q : Solved). both_finite (get_or q.pairs k no_pair)) p.ensures ∙ pairs-finite _ _ _ k h)
 
 pub settle-requires : goal.settle-requires
 settle-requires c =

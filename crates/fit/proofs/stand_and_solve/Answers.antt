@@ -8,7 +8,7 @@ use Rattle.fit.proofs.Fitting.{fits_along, fits_refused}
 use Rattle.fit.proofs.Order.{stood_first}
 use borrow.Author.Rules.{rules}
 use Rattle.fit.proofs.stand_and_solve.Goals as goal
-use Rattle.fit.proofs.stand_and_solve.Goals.{After-first-stood}
+use Rattle.fit.proofs.stand_and_solve.Goals.{After-first-stood, Start}
 
 pub stand-requires : goal.stand-requires
 stand-requires c = search rules
@@ -19,10 +19,10 @@ stood_is c = c.first-stood.ensures ∙ ap₂ (λ v w. v then w) c.stand.ensures 
 
 pub solve-requires : goal.solve-requires
 solve-requires c = let s =
-    c.before.before.before.before.before.before.before.before in record { alike = s.requires; minutes_value = stood_first _ _ _ _ (step_accepts (stood_is c.before.before.before.before) c.in-Accepted.is) }
+    (goal.at.solve-requires c).Start in record { alike = s.requires; minutes_value = stood_first _ _ _ _ (step_accepts (stood_is (goal.at.solve-requires c).After-first-stood) c.in-Accepted.is) }
 
 pub returns-in-Accepted : goal.returns-in-Accepted
-returns-in-Accepted c = fits_along (step_passes _ (stood_is c.before.before.before.before.before.before.before) c.in-Accepted.is refl) c.solve.ensures
+returns-in-Accepted c = fits_along (step_passes _ (stood_is (goal.at.returns-in-Accepted c).After-first-stood) c.in-Accepted.is refl) c.solve.ensures
 
 pub returns-in-Refused : goal.returns-in-Refused
-returns-in-Refused c = fits_along (step_refuses _ (stood_is c.before.before.before) c.in-Refused.is) fits_refused
+returns-in-Refused c = fits_along (step_refuses _ (stood_is (goal.at.returns-in-Refused c).After-first-stood) c.in-Refused.is) fits_refused

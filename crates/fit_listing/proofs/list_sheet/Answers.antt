@@ -11,7 +11,7 @@ use Rattle.gather.specs.Gathered.{most}
 use Rattle.fit_listing.proofs.Listings.{listed_refused, listed_knots}
 use borrow.Author.Rules.{rules}
 use Rattle.fit_listing.proofs.list_sheet.Goals as goal
-use Rattle.fit_listing.proofs.list_sheet.Goals.{Start}
+use Rattle.fit_listing.proofs.list_sheet.Goals.{Else-sheet-ne0, Start}
 
 -- no more knots than the arrays have places
 record Roomy (a : Gathered) : Type 0 where
@@ -28,23 +28,23 @@ room c =
 
 pub refused_line-requires : goal.refused_line-requires
 refused_line-requires c =
-    let a = c.before.before.before.before in
+    let a = (goal.at.refused_line-requires c).Start in
     omega (arith, length_refused_line a.args.sheet.number a.args.sheet.place (search rules) (search rules), a.requires.1)
 
 pub returns-then-sheet-ne0 : goal.returns-then-sheet-ne0
 returns-then-sheet-ne0 c = rw (listed_refused c.args.sheet c.if-sheet-ne0.true) c.refused_line.ensures
 
 pub slice_bounds-minutes-end : goal.slice_bounds-minutes-end
-slice_bounds-minutes-end c = (room c.before.before.before.before.before.before).minutes
+slice_bounds-minutes-end c = (room (goal.at.slice_bounds-minutes-end c).Start).minutes
 
 pub slice_bounds-list_fit-end : goal.slice_bounds-list_fit-end
-slice_bounds-list_fit-end c = sym (length-take-le _ _ (room c.before.before.before.before.before.before.before).minutes)
+slice_bounds-list_fit-end c = sym (length-take-le _ _ (room (goal.at.slice_bounds-list_fit-end c).Start).minutes)
 
 pub slice_bounds-ordinates-end : goal.slice_bounds-ordinates-end
-slice_bounds-ordinates-end c = (room c.before.before.before.before.before.before.before).ordinates
+slice_bounds-ordinates-end c = (room (goal.at.slice_bounds-ordinates-end c).Start).ordinates
 
 pub slice_bounds-list_fit-end-2 : goal.slice_bounds-list_fit-end-2
-slice_bounds-list_fit-end-2 c = sym (length-take-le _ _ (room c.before.before.before.before.before.before.before.before).ordinates)
+slice_bounds-list_fit-end-2 c = sym (length-take-le _ _ (room (goal.at.slice_bounds-list_fit-end-2 c).Start).ordinates)
 
 pub slice_bounds-list_fit-end-3 : goal.slice_bounds-list_fit-end-3
 slice_bounds-list_fit-end-3 c = sym (length-take-le _ (replicate most (pos 0)) c.requires.0)
@@ -53,14 +53,14 @@ pub slice_bounds-list_fit-end-4 : goal.slice_bounds-list_fit-end-4
 slice_bounds-list_fit-end-4 c = sym (length-take-le _ (replicate most (pos 0)) c.requires.0)
 
 pub slice_bounds-faults-end : goal.slice_bounds-faults-end
-slice_bounds-faults-end c = (room c.before.before.before.before.before.before.before.before.before.before).faults
+slice_bounds-faults-end c = (room (goal.at.slice_bounds-faults-end c).Start).faults
 
 pub slice_bounds-list_fit-end-5 : goal.slice_bounds-list_fit-end-5
-slice_bounds-list_fit-end-5 c = sym (length-take-le _ _ (room c.before.before.before.before.before.before.before.before.before.before.before).faults)
+slice_bounds-list_fit-end-5 c = sym (length-take-le _ _ (room (goal.at.slice_bounds-list_fit-end-5 c).Start).faults)
 
 pub list_fit-requires : goal.list_fit-requires
 list_fit-requires c =
-    let q = c.before.before.before.before.before.before.before.before.before.before.before.before in
+    let q = (goal.at.list_fit-requires c).Start in
     let a = q.args.sheet in
     let n = a.knots in
     let x = length-take-le n a.minutes (room q).minutes in
@@ -70,7 +70,7 @@ list_fit-requires c =
 
 pub returns : goal.returns
 returns c =
-    let q = c.before.before.before.before.before.before.before.before.before.before.before.before.before.before in
+    let q = (goal.at.returns c).Else-sheet-ne0 in
     let a = q.args.sheet in
     let z : a.number ≡ 0 = omega (arith, q.if-sheet-ne0.false) in
     rw (listed_knots a z) c.list_fit.ensures

@@ -24,10 +24,10 @@ fits : (c : After-nearest) → nat_abs c.nearest.result < 2 ^ 31
 fits c = rw (nearest_is c) c.requires.d_bound
 
 pub overflow_cast-result : goal.overflow_cast-result
-overflow_cast-result c = asked w64 (held c.nearest.result ∷ []) (v0 ∷ []) (λ z. SFits w32 z) (record { sfits = c.nearest.type-inv }, tt) (abs_fits (fits c))
+overflow_cast-result c = asked w64 (held c.nearest.result ∷ []) (v0 ∷ []) (λ z. SFits w32 z) (record { sfits = c.nearest.type_inv }, tt) (abs_fits (fits c))
 
 pub returns : goal.returns
 returns c =
     let a = c.args in
-    asked w64 (held c.nearest.result ∷ []) (v0 ∷ []) (λ z. to_z w32 (of_z w32 z) ≡ nearest a.n a.d) (record { sfits = c.nearest.type-inv }, tt)
+    asked w64 (held c.nearest.result ∷ []) (v0 ∷ []) (λ z. to_z w32 (of_z w32 z) ≡ nearest a.n a.d) (record { sfits = c.nearest.type_inv }, tt)
     (to_z-of_z {w = w32} (abs_fits (fits c)) ∙ nearest_is c)

@@ -32,7 +32,7 @@ overflow_add-i c = omega (arith, c.requires)
 pub loop-i-preserved : goal.loop-i-preserved
 loop-i-preserved c =
     let l = c.loop-i in
-    (omega arith, filled_more l.invariant.1 (omega (arith, c.requires)) (to_z-of_z {w = w16} (record { sfits = c.filled_at.type-inv }) ∙ c.filled_at.ensures))
+    (omega arith, filled_more l.invariant.1 (omega (arith, c.requires)) (to_z-of_z {w = w16} (record { sfits = c.filled_at.type_inv }) ∙ c.filled_at.ensures))
 
 pub returns : goal.returns
 returns c =

@@ -45,11 +45,11 @@ weighed-sum-requires c =
 
 sum_is : (c : After-weighed-sum) → (let a = c.args in c.weighed-sum.result ≡ a.y *ℤ pos a.u +ℤ a.z *ℤ pos a.v)
 sum_is c =
-    let h = handed c.before in
+    let h = handed (goal.at.After-weighed-sum c).Start in
     rw (h.y-is, h.u-is, h.z-is, h.v-is) at c.weighed-sum.ensures
 
 sum_kept : (c : After-weighed-sum) → to_z w64 (of_z w64 c.weighed-sum.result) ≡ c.weighed-sum.result
-sum_kept c = to_z-of_z {w = w64} (record { sfits = c.weighed-sum.type-inv })
+sum_kept c = to_z-of_z {w = w64} (record { sfits = c.weighed-sum.type_inv })
 
 pub nearest-requires : goal.nearest-requires
 unfolding quintic
@@ -62,7 +62,7 @@ value_is : (c : After-nearest) → (let a = c.args in to_z w64 (of_z w64 c.neare
 unfolding line
 value_is c =
     let a = c.args in
-    to_z-of_z {w = w64} (record { sfits = c.nearest.type-inv }) ∙ c.nearest.ensures ∙ ap (λ n. nearest n (a.u + a.v)) (sum_kept c.before ∙ sum_is c.before)
+    to_z-of_z {w = w64} (record { sfits = c.nearest.type_inv }) ∙ c.nearest.ensures ∙ ap (λ n. nearest n (a.u + a.v)) (sum_kept (goal.at.After-nearest c).After-weighed-sum ∙ sum_is (goal.at.After-nearest c).After-weighed-sum)
 
 pub overflow_cast-result : goal.overflow_cast-result
 overflow_cast-result c = rw (value_is c) (line_fits c.requires)

@@ -30,33 +30,33 @@ within c = record { each = (gap_in c.requires, tt) }
 
 pub returns-then-h-lt1 : goal.returns-then-h-lt1
 returns-then-h-lt1 c =
-    let d = c.before in
+    let d = (goal.at.returns-then-h-lt1 c).Start in
     sym (clear_none (degree (order_of d.args.order)) d.requires.from (lt_z_true (gives (within d) (h ∷ []) (λ z. lt_z z (pos 1) ≡ true) tt c.if-h-lt1.true)))
 
 wide : (c : Else-h-lt1) → pos 1 ≤ℤ c.args.h
-wide c = lt_z_false (gives (within c.before) (h ∷ []) (λ z. lt_z z (pos 1) ≡ false) tt c.if-h-lt1.false)
+wide c = lt_z_false (gives (within (goal.at.Else-h-lt1 c).Start) (h ∷ []) (λ z. lt_z z (pos 1) ≡ false) tt c.if-h-lt1.false)
 
 -- an operation of either arm
 third : (e : E) → T (safe w64 tops e) → (c : In-Third) → SFits w64 (res w64 (held c.args.h ∷ []) e)
-third e t c = step (within c.before.before.before) e t
+third e t c = step (within (goal.at.In-Third c).Start) e t
 
 fourth : (e : E) → T (safe w64 tops e) → (c : In-Fourth) → SFits w64 (res w64 (held c.args.h ∷ []) e)
-fourth e t c = step (within c.before.before.before) e t
+fourth e t c = step (within (goal.at.In-Fourth c).Start) e t
 
 pub returns-in-Third : goal.returns-in-Third
 unfolding degree
 returns-in-Third c =
     let a = c.args in
-    back (within c.before.before.before) (h :* h :* h) tt
-    ∙ clear_third a.h (wide c.before.before)
+    back (within (goal.at.returns-in-Third c).Start) (h :* h :* h) tt
+    ∙ clear_third a.h (wide (goal.at.returns-in-Third c).Else-h-lt1)
     ∙ ap (λ o. pos (clear (nat_abs a.h) (degree (order_of o)))) (sym c.in-Third.is)
 
 pub returns-in-Fourth : goal.returns-in-Fourth
 unfolding degree
 returns-in-Fourth c =
     let a = c.args in
-    back (within c.before.before.before) (h :* h :* h :* h) tt
-    ∙ clear_fourth a.h (wide c.before.before)
+    back (within (goal.at.returns-in-Fourth c).Start) (h :* h :* h :* h) tt
+    ∙ clear_fourth a.h (wide (goal.at.returns-in-Fourth c).Else-h-lt1)
     ∙ ap (λ o. pos (clear (nat_abs a.h) (degree (order_of o)))) (sym c.in-Fourth.is)
 
 pub overflow_mul-result : goal.overflow_mul-result

@@ -17,7 +17,7 @@ use Rattle.jumps.proofs.meet.Goals as goal
 use Rattle.jumps.proofs.meet.Goals.{After-crossed, After-crossed-2, After-struct_told-4-1, Start}
 
 abbrev start : After-struct_told-4-1 → Start
-start c = c.before.before.before.before
+start c = (goal.at.After-struct_told-4-1 c).Start
 
 abbrev four : List E
 four = v0 ∷ v1 ∷ v2 ∷ v3 ∷ []
@@ -57,28 +57,28 @@ crossed-requires c = asked w64 (sides (l c) (r c)) four (λ a p b q. nat_abs a *
 
 pub crossed-requires-2 : goal.crossed-requires-2
 crossed-requires-2 c =
-    let d = c.before.before.before.before.before in
+    let d = (goal.at.crossed-requires-2 c).After-struct_told-4-1 in
     asked w64 (allowed (l d) (r d)) four (λ a p b q. nat_abs a * nat_abs p + nat_abs b * nat_abs q < 2 ^ 63) (allowed_fit d) (start d).requires.leeways
 
-jump_is : (c : After-crossed) → c.crossed.result ≡ met_jump (l c.before) (r c.before)
-jump_is c = let d = c.before in told w64 (sides (l d) (r d)) four (λ a p b q. c.crossed.result ≡ a *ℤ p +ℤ b *ℤ q) (sides_fit d) c.crossed.ensures
+jump_is : (c : After-crossed) → c.crossed.result ≡ met_jump (l (goal.at.After-crossed c).After-struct_told-4-1) (r (goal.at.After-crossed c).After-struct_told-4-1)
+jump_is c = let d = (goal.at.After-crossed c).After-struct_told-4-1 in told w64 (sides (l d) (r d)) four (λ a p b q. c.crossed.result ≡ a *ℤ p +ℤ b *ℤ q) (sides_fit d) c.crossed.ensures
 
-leeways_are : (c : After-crossed-2) → (let d = c.before.before.before.before.before.before in c.crossed-2.result ≡ met_leeways (l d) (r d))
+leeways_are : (c : After-crossed-2) → (let d = (goal.at.After-crossed-2 c).After-struct_told-4-1 in c.crossed-2.result ≡ met_leeways (l d) (r d))
 leeways_are c =
-    let d = c.before.before.before.before.before.before in
+    let d = (goal.at.After-crossed-2 c).After-struct_told-4-1 in
     told w64 (allowed (l d) (r d)) four (λ a p b q. c.crossed-2.result ≡ a *ℤ p +ℤ b *ℤ q) (allowed_fit d) c.crossed-2.ensures
 
 abbrev first : After-crossed-2 → After-crossed
-first c = c.before.before.before.before.before
+first c = (goal.at.After-crossed-2 c).After-crossed
+
+pub returns : goal.returns
+returns c =
+    let s = (goal.at.returns c).After-crossed-2 in
+    let f = first s in
+    told w64 (held f.crossed.result ∷ held s.crossed-2.result ∷ []) (v0 ∷ v1 ∷ []) (λ j a. c.over.result ≡ past j a) (record { sfits = f.crossed.type_inv }, (record { sfits = s.crossed-2.type_inv }, tt)) c.over.ensures
+    ∙ ap₂ past (jump_is f) (leeways_are s)
 
 pub over-requires : goal.over-requires
 over-requires c =
     let f = first c in
-    asked w64 (held f.crossed.result ∷ []) (v0 ∷ []) (λ j. nat_abs j < 2 ^ 63) (record { sfits = f.crossed.ok }, tt) (rw (jump_is f) (jump_size (start f.before).requires))
-
-pub returns : goal.returns
-returns c =
-    let s = c.before in
-    let f = first s in
-    told w64 (held f.crossed.result ∷ held s.crossed-2.result ∷ []) (v0 ∷ v1 ∷ []) (λ j a. c.over.result ≡ past j a) (record { sfits = f.crossed.ok }, (record { sfits = s.crossed-2.type-inv }, tt)) c.over.ensures
-    ∙ ap₂ past (jump_is f) (leeways_are s)
+    asked w64 (held f.crossed.result ∷ []) (v0 ∷ []) (λ j. nat_abs j < 2 ^ 63) (record { sfits = f.crossed.type_inv }, tt) (rw (jump_is f) (jump_size (start (goal.at.After-crossed f).After-struct_told-4-1).requires))

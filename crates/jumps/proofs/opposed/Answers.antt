@@ -20,11 +20,11 @@ turned c = record { left = c.ranges.mirrored; right = tt; fits = abs_fits (rw ab
 
 pub returns-in-Third : goal.returns-in-Third
 unfolding opposed
-returns-in-Third c = let d = c.before.before in gave w64 (args d) v0 d.ranges.mirrored ∙ ap (λ o. opposed o d.args.mirrored) (sym c.in-Third.is)
+returns-in-Third c = let d = (goal.at.returns-in-Third c).Start in gave w64 (args d) v0 d.ranges.mirrored ∙ ap (λ o. opposed o d.args.mirrored) (sym c.in-Third.is)
 
 pub returns-in-Fourth : goal.returns-in-Fourth
 unfolding opposed
-returns-in-Fourth c = let d = c.before.before in gave w64 (args d) (:neg v0) (turned d) ∙ ap (λ o. opposed o d.args.mirrored) (sym c.in-Fourth.is)
+returns-in-Fourth c = let d = (goal.at.returns-in-Fourth c).Start in gave w64 (args d) (:neg v0) (turned d) ∙ ap (λ o. opposed o d.args.mirrored) (sym c.in-Fourth.is)
 
 pub overflow_sub-result : goal.overflow_sub-result
-overflow_sub-result c = let d = c.before.before in does w64 (args d) (:neg v0) (turned d)
+overflow_sub-result c = let d = (goal.at.overflow_sub-result c).Start in does w64 (args d) (:neg v0) (turned d)

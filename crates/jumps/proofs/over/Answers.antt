@@ -22,14 +22,14 @@ turned c = record { left = c.ranges.jump; right = tt; fits = abs_fits (rw abs_ne
 
 pub returns-then-allowed-jump : goal.returns-then-allowed-jump
 returns-then-allowed-jump c =
-    let d = c.before in
+    let d = (goal.at.returns-then-allowed-jump c).Start in
     past_up d.args.jump d.args.allowed (lt_z_true (told w64 (args d) (allowed ∷ jump ∷ []) (λ a j. lt_z a j ≡ true) (d.ranges.allowed, (d.ranges.jump, tt)) c.if-allowed-jump.true))
 
 pub returns : goal.returns
 returns c =
-    let d = c.before in
+    let d = (goal.at.returns c).Start in
     let n = lt_z_false (told w64 (args d) (allowed ∷ jump ∷ []) (λ a j. lt_z a j ≡ false) (d.ranges.allowed, (d.ranges.jump, tt)) c.if-allowed-jump.false) in
     asked w64 (args d) (allowed ∷ (:neg jump) ∷ []) (λ a j. lt_z a j ≡ past d.args.jump d.args.allowed) (d.ranges.allowed, (turned d, tt)) (past_down d.args.jump d.args.allowed n)
 
 pub overflow_sub-result : goal.overflow_sub-result
-overflow_sub-result c = does w64 (args c.before) (:neg jump) (turned c.before)
+overflow_sub-result c = does w64 (args (goal.at.overflow_sub-result c).Start) (:neg jump) (turned (goal.at.overflow_sub-result c).Start)

@@ -24,7 +24,7 @@ abbrev fourths : E
 fourths = side_e Fourth h y m k y' m' k'
 
 abbrev start : After-struct_told-6-1 → Start
-start c = c.before.before.before.before.before.before
+start c = (goal.at.After-struct_told-6-1 c).Start
 
 abbrev args : After-struct_told-6-1 → List Src
 args c = let a = (start c).args in side_args a.h a.here a.next
@@ -33,23 +33,23 @@ op : (e : E) → T (safe w64 side_tops e) → (c : After-struct_told-6-1) → SF
 op e t c = step (side_in (start c).requires) e t
 
 -- an operation of either arm
-third : (e : E) → T (safe w64 side_tops e) → (c : In-Third) → SFits w64 (res w64 (args c.before.before) e)
-third e t c = op e t c.before.before
+third : (e : E) → T (safe w64 side_tops e) → (c : In-Third) → SFits w64 (res w64 (args (goal.at.In-Third c).After-struct_told-6-1) e)
+third e t c = op e t (goal.at.In-Third c).After-struct_told-6-1
 
-fourth : (e : E) → T (safe w64 side_tops e) → (c : In-Fourth) → SFits w64 (res w64 (args c.before.before) e)
-fourth e t c = op e t c.before.before
+fourth : (e : E) → T (safe w64 side_tops e) → (c : In-Fourth) → SFits w64 (res w64 (args (goal.at.In-Fourth c).After-struct_told-6-1) e)
+fourth e t c = op e t (goal.at.In-Fourth c).After-struct_told-6-1
 
 pub returns-in-Third : goal.returns-in-Third
 unfolding side
 returns-in-Third c =
-    let d = start c.before.before in
-    back (side_in d.pre) thirds tt ∙ ap (λ o. side o d.args.h d.args.here d.args.next) (sym c.in-Third.is)
+    let d = start (goal.at.returns-in-Third c).After-struct_told-6-1 in
+    back (side_in d.requires) thirds tt ∙ ap (λ o. side o d.args.h d.args.here d.args.next) (sym c.in-Third.is)
 
 pub returns-in-Fourth : goal.returns-in-Fourth
 unfolding side
 returns-in-Fourth c =
-    let d = start c.before.before in
-    back (side_in d.pre) fourths tt ∙ ap (λ o. side o d.args.h d.args.here d.args.next) (sym c.in-Fourth.is)
+    let d = start (goal.at.returns-in-Fourth c).After-struct_told-6-1 in
+    back (side_in d.requires) fourths tt ∙ ap (λ o. side o d.args.h d.args.here d.args.next) (sym c.in-Fourth.is)
 
 pub overflow_sub-rise : goal.overflow_sub-rise
 overflow_sub-rise = op (y' :- y) tt

@@ -4,6 +4,7 @@ use borrow.Author.Rules.{rules}
 use Rattle.little_endian.specs.Numbers.{Bytes}
 use Rattle.kaihveto.specs.Types.{Room}
 use Rattle.kaihveto.proofs.kaihveto_book_put.Goals as goal
+use Rattle.kaihveto.proofs.kaihveto_book_put.Goals.{After-slice_known-1}
 
 pub put-requires : goal.put-requires
 put-requires c = search rules
@@ -11,4 +12,4 @@ put-requires c = search rules
 pub returns : goal.returns
 unfolding Bytes Room
 returns c =
-    let k = c.before.before.before.before.before in record { puts = c.put.ensures; typed = (λ i. omega (arith, k.slice_known-1.given i), omega arith) }
+    let k = (goal.at.returns c).After-slice_known-1 in record { puts = c.put.ensures; typed = (λ i. omega (arith, k.slice_known-1.given i), omega arith) }

@@ -22,16 +22,16 @@ turned : (c : Start) → Ok w32 (args c) (:neg limit)
 turned c = record { left = c.ranges.limit; right = tt; fits = abs_fits (rw abs_neg (abs_of_fits c.requires c.ranges.limit)) }
 
 pub overflow_sub-result : goal.overflow_sub-result
-overflow_sub-result c = does w32 (args c.before) (:neg limit) (turned c.before)
+overflow_sub-result c = does w32 (args (goal.at.overflow_sub-result c).Start) (:neg limit) (turned (goal.at.overflow_sub-result c).Start)
 
 pub returns-then-z-lt0 : goal.returns-then-z-lt0
 returns-then-z-lt0 c =
-    let d = c.before in
+    let d = (goal.at.returns-then-z-lt0 c).Start in
     let n = lt_z_true (told w32 (args d) (z ∷ []) (λ z. lt_z z (pos 0) ≡ true) (d.ranges.z, tt) c.if-z-lt0.true) in
     asked w32 (args d) (z ∷ (:neg limit) ∷ []) (λ z l. lt_z z l ≡ beyond (nat_abs d.args.limit) d.args.z) (d.ranges.z, (turned d, tt)) (beyond_below d.args.limit d.args.z d.requires n)
 
 pub returns : goal.returns
 returns c =
-    let d = c.before in
+    let d = (goal.at.returns c).Start in
     let n = lt_z_false (told w32 (args d) (z ∷ []) (λ z. lt_z z (pos 0) ≡ false) (d.ranges.z, tt) c.if-z-lt0.false) in
     asked w32 (args d) (limit ∷ z ∷ []) (λ l z. lt_z l z ≡ beyond (nat_abs d.args.limit) d.args.z) (d.ranges.limit, (d.ranges.z, tt)) (beyond_above d.args.limit d.args.z d.requires n)

@@ -21,7 +21,7 @@ limit : (c : After-curvature_limit) → (let a = c.args in c.curvature_limit.res
 limit c = c.curvature_limit.ensures ∙ ap (λ g. pos (quintic.curvatures g)) c.wider_gap.ensures
 
 limit_fits : (c : After-curvature_limit) → SFits w32 c.curvature_limit.result
-limit_fits c = record { sfits = c.curvature_limit.type-inv }
+limit_fits c = record { sfits = c.curvature_limit.type_inv }
 
 pub beyond-requires : goal.beyond-requires
 beyond-requires c = asked w32 (held c.curvature_limit.result ∷ []) (v0 ∷ []) (λ l. pos 0 ≤ℤ l) (limit_fits c, tt) (rw (limit c) (omega linear))
@@ -31,6 +31,6 @@ returns c =
     let a = c.args in
     let z = get_or a.cs.now a.i (pos 0) in
     told w32 (held c.curvature_limit.result ∷ held z ∷ []) (v0 ∷ v1 ∷ []) (λ l z. c.beyond.result ≡ beyond (nat_abs l) z)
-    (limit_fits c.before, (record { sfits = c.c-1.given }, tt))
+    (limit_fits (goal.at.returns c).After-curvature_limit, (record { sfits = c.c-1.given }, tt))
     c.beyond.ensures
-    ∙ ap (λ l. beyond (nat_abs l) z) (limit c.before)
+    ∙ ap (λ l. beyond (nat_abs l) z) (limit (goal.at.returns c).After-curvature_limit)

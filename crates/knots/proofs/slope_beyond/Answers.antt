@@ -11,6 +11,7 @@ use Rattle.whole.proofs.Solve.{v0}
 use Rattle.whole.proofs.Machine.{held, told}
 use Rattle.curve.specs.Kind.{quintic}
 use Rattle.knots.proofs.slope_beyond.Goals as goal
+use Rattle.knots.proofs.slope_beyond.Goals.{Start}
 
 pub beyond-requires : goal.beyond-requires
 beyond-requires c = search rules
@@ -18,5 +19,5 @@ beyond-requires c = search rules
 pub returns : goal.returns
 unfolding quintic
 returns c =
-    let d = c.before.before in
+    let d = (goal.at.returns c).Start in
     told w32 (held (get_or d.args.ms.now d.args.i (pos 0)) ∷ []) (v0 ∷ []) (λ m. c.beyond.result ≡ beyond quintic.slopes m) (record { sfits = c.m-1.given }, tt) c.beyond.ensures

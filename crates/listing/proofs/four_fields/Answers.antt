@@ -19,20 +19,20 @@ by_x : (c : After-put_field-after_x)
     → (let a = c.args in
     Put (field (pos a.x) space) a.text.now c.put_field-after_x.new.0 a.at c.put_field-after_x.result)
 by_x c =
-    let a = c.before.before.before in
+    let a = (goal.at.After-put_field-after_x c).Start in
     rw (to_z_pos w64 {n = a.args.x} (omega (arith, a.ranges.x))) at c.put_field-after_x.ensures
 
 by_y : (c : After-put_field-after_y)
     → (let a = c.args in
     Put (field (pos a.x) space ++ field a.y space) a.text.now c.put_field-after_y.new.0 a.at c.put_field-after_y.result)
 by_y c =
-    put_then (by_x c.before.before.before.before) (rw (widened w32 w64 tt c.ranges.y) at c.put_field-after_y.ensures)
+    put_then (by_x (goal.at.After-put_field-after_y c).After-put_field-after_x) (rw (widened w32 w64 tt c.ranges.y) at c.put_field-after_y.ensures)
 
 by_m : (c : After-put_field-after_m)
     → (let a = c.args in
     Put (field (pos a.x) space ++ field a.y space ++ field a.m space) a.text.now c.put_field-after_m.new.0 a.at c.put_field-after_m.result)
 by_m c =
-    put_then (by_y c.before.before.before.before) (rw (widened w32 w64 tt c.ranges.m) at c.put_field-after_m.ensures)
+    put_then (by_y (goal.at.After-put_field-after_m c).After-put_field-after_y) (rw (widened w32 w64 tt c.ranges.m) at c.put_field-after_m.ensures)
 
 room_before_c : (c : Start)
     → (let a = c.args in
@@ -51,7 +51,7 @@ room_before_m c =
 
 pub put_field-after_x-requires : goal.put_field-after_x-requires
 put_field-after_x-requires c =
-    let a = c.before.before in
+    let a = (goal.at.put_field-after_x-requires c).Start in
     let x = a.args.x in
     rw (to_z_pos w64 {n = x} (omega (arith, a.ranges.x)))
     (room_before (field (pos x) space) (field a.args.y space) a.args.at (room_before_m a))
@@ -61,8 +61,8 @@ overflow_cast-y c = wide w32 w64 tt c.ranges.y
 
 pub put_field-after_y-requires : goal.put_field-after_y-requires
 put_field-after_y-requires c =
-    let q = c.before.before.before in
-    let a = q.before.before.before in
+    let q = (goal.at.put_field-after_y-requires c).After-put_field-after_x in
+    let a = (goal.at.After-put_field-after_x q).Start in
     rw (widened w32 w64 tt a.ranges.y) (room_behind (by_x q) (field a.args.y space) (room_before_m a))
 
 pub overflow_cast-m : goal.overflow_cast-m
@@ -70,8 +70,8 @@ overflow_cast-m c = wide w32 w64 tt c.ranges.m
 
 pub put_field-after_m-requires : goal.put_field-after_m-requires
 put_field-after_m-requires c =
-    let q = c.before.before.before in
-    let a = q.before.before.before.before.before.before.before in
+    let q = (goal.at.put_field-after_m-requires c).After-put_field-after_y in
+    let a = (goal.at.After-put_field-after_y q).Start in
     rw (widened w32 w64 tt a.ranges.m) (room_behind (by_y q) (field a.args.m space) (room_before_c a))
 
 pub overflow_cast-c : goal.overflow_cast-c
@@ -80,12 +80,12 @@ overflow_cast-c c = wide w32 w64 tt c.ranges.c
 pub put_field-requires : goal.put_field-requires
 unfolding four_fields
 put_field-requires c =
-    let q = c.before.before.before in
-    let a = q.before.before.before.before.before.before.before.before.before.before.before in
+    let q = (goal.at.put_field-requires c).After-put_field-after_m in
+    let a = (goal.at.After-put_field-after_m q).Start in
     rw (widened w32 w64 tt a.ranges.c) (room_behind (by_m q) (field a.args.c a.args.last) a.requires)
 
 pub returns : goal.returns
 unfolding four_fields
 returns c =
-    let q = c.before.before.before.before.before.before in
+    let q = (goal.at.returns c).After-put_field-after_m in
     put_then (by_m q) (rw (widened w32 w64 tt q.ranges.c) at c.put_field.ensures)

@@ -23,19 +23,19 @@ module _ (s : Start) (line : ℤ → ℤ → ℤ → List ℕ) (is : (let a = s.
   fits = rw (to_z-of_z s.ranges.y, to_z-of_z s.ranges.m, to_z-of_z s.ranges.c) (rw is at s.requires)
 
   is_put : {exit : List ℕ} {r : ℕ} → (let a = s.args in Put (line (on a.y) (on a.m) (on a.c)) a.text.now exit a.at r → Put (listed_line a.x a.y a.m a.c a.faults) a.text.now exit a.at r)
-  is_put p = rw is (rw (to_z-of_z s.fits.y, to_z-of_z s.fits.m, to_z-of_z s.fits.c) at p)
+  is_put p = rw is (rw (to_z-of_z s.ranges.y, to_z-of_z s.ranges.m, to_z-of_z s.ranges.c) at p)
 
 pub knot_line-requires : goal.knot_line-requires
-knot_line-requires c = let s = c.before.before.before in fits s (knot_line s.args.x) (of_a_knot _ _ _ _ _ c.if-faults-eq-NO_LOG.true)
+knot_line-requires c = let s = (goal.at.knot_line-requires c).Start in fits s (knot_line s.args.x) (of_a_knot _ _ _ _ _ c.if-faults-eq-NO_LOG.true)
 
 pub returns-then-faults-eq-NO_LOG : goal.returns-then-faults-eq-NO_LOG
-returns-then-faults-eq-NO_LOG c = let s = c.before.before.before.before.before.before in is_put s (knot_line s.args.x) (of_a_knot _ _ _ _ _ c.if-faults-eq-NO_LOG.true) c.knot_line.ensures
+returns-then-faults-eq-NO_LOG c = let s = (goal.at.returns-then-faults-eq-NO_LOG c).Start in is_put s (knot_line s.args.x) (of_a_knot _ _ _ _ _ c.if-faults-eq-NO_LOG.true) c.knot_line.ensures
 
 abbrev log_line : Start → ℤ → ℤ → ℤ → List ℕ
 log_line s y m c = counted_line s.args.x y m c s.args.faults
 
 pub counted_line-requires : goal.counted_line-requires
-counted_line-requires c = let s = c.before.before.before in fits s (log_line s) (of_a_log _ _ _ _ _ c.if-faults-eq-NO_LOG.false)
+counted_line-requires c = let s = (goal.at.counted_line-requires c).Start in fits s (log_line s) (of_a_log _ _ _ _ _ c.if-faults-eq-NO_LOG.false)
 
 pub returns : goal.returns
-returns c = let s = c.before.before.before.before.before.before in is_put s (log_line s) (of_a_log _ _ _ _ _ c.if-faults-eq-NO_LOG.false) c.counted_line.ensures
+returns c = let s = (goal.at.returns c).Start in is_put s (log_line s) (of_a_log _ _ _ _ _ c.if-faults-eq-NO_LOG.false) c.counted_line.ensures

@@ -20,7 +20,7 @@ use Rattle.lists.proofs.curve_at.Goals as goal
 use Rattle.lists.proofs.curve_at.Goals.{After-knot_at-b, After-shared_slice_known-3-1, Start}
 
 abbrev start : After-knot_at-b → Start
-start c = c.before.before.before.before.before
+start c = (goal.at.After-knot_at-b c).Start
 
 abbrev next : Start → ℕ
 next c = get_or c.args.xs.now (c.args.i + 1) 0
@@ -34,7 +34,7 @@ rises c = minutes_rise c.requires.checked c.args.i c.requires.i_in_bounds
 abbrev numbers : Start → ℕ → Knot
 numbers c = numbers_at c.args.ys.now c.args.ms.now c.args.cs.now
 
-small : (c : After-shared_slice_known-3-1) → h c.before.before.before < 2 ^ 63
+small : (c : After-shared_slice_known-3-1) → h (goal.at.After-shared_slice_known-3-1 c).Start < 2 ^ 63
 small c = omega (arith, c.shared_slice_known-3-1.given (c.args.i + 1))
 
 last : (c : Start) → InPlace c.args.xs.now c.args.i (next c)
@@ -54,17 +54,17 @@ module _ {h h' : ℤ} {a b a' b' : Knot} (e : Handed h h' a b a' b') where
   laid_same = rw (e.h_is, e.a-is, e.b-is)
 
 handed : (c : After-knot_at-b) → (let d = start c in Handed (to_z w64 (h d)) (pos (h d)) c.knot_at-a.result c.knot_at-b.result (numbers d d.args.i) (numbers d (d.args.i + 1)))
-handed c = record { h_is = to_z_pos w64 (small c.before.before); a_is = c.knot_at-a.ensures; b_is = c.knot_at-b.ensures }
+handed c = record { h_is = to_z_pos w64 (small (goal.at.After-knot_at-b c).After-shared_slice_known-3-1); a_is = c.knot_at-a.ensures; b_is = c.knot_at-b.ensures }
 
 pub of-requires : goal.of-requires
 of-requires c = let d =
-    let t = start c in asks_same (handed c) (settled_minute d.pre.0 d.args.i (next d) (last d)) (settled_gap d.pre.0 d.args.i (next d) (last d)) in record { in_gap = t.0; tame = t.1 }
+    let t = start c in asks_same (handed c) (settled_minute d.requires.checked d.args.i (next d) (last d)) (settled_gap d.requires.checked d.args.i (next d) (last d)) in record { in_gap = t.0; tame = t.1 }
 
 pub returns : goal.returns
-returns c = c.of.ensures ∙ laid_same (handed c.before)
+returns c = c.of.ensures ∙ laid_same (handed (goal.at.returns c).After-knot_at-b)
 
 pub overflow_sub-to : goal.overflow_sub-to
 overflow_sub-to c = le_of_lt (rises (start c))
 
 pub overflow_cast-to : goal.overflow_cast-to
-overflow_cast-to c = record { sfits = small c.before.before }
+overflow_cast-to c = record { sfits = small (goal.at.overflow_cast-to c).After-shared_slice_known-3-1 }

@@ -16,30 +16,30 @@ use Rattle.lists.proofs.read_at.Goals as goal
 use Rattle.lists.proofs.read_at.Goals.{After-find-gap, In-Accepted, Start}
 
 abbrev start : In-Accepted → Start
-start c = c.before.before.before.before
+start c = (goal.at.In-Accepted c).Start
 
 inside : (c : In-Accepted) → outside (start c).args.xs.now (start c).args.minute ≡ accepted
 inside c = sym c.outside-outside.ensures ∙ ap verdict_of c.in-Accepted.is
 
 -- the gap that the looks leave is the minute's
-left_is : (c : After-find-gap) → (let a = (start c.before).args in (c.find-gap.result.first ≡ gap_of a.xs.now a.minute) × InPlace a.xs.now c.find-gap.result.first a.minute)
-left_is c = let d = start c.before in found_place d.pre.0 d.pre.1 (inside c.before) c.find-gap.ensures
+left_is : (c : After-find-gap) → (let a = (start (goal.at.After-find-gap c).In-Accepted).args in (c.find-gap.result.first ≡ gap_of a.xs.now a.minute) × InPlace a.xs.now c.find-gap.result.first a.minute)
+left_is c = let d = start (goal.at.After-find-gap c).In-Accepted in found_place d.requires.checked d.requires.in_bounds (inside (goal.at.After-find-gap c).In-Accepted) c.find-gap.ensures
 
 pub returns-in-Accepted : goal.returns-in-Accepted
 unfolding answer_at reading_order reads_at spell ◌then◌
 returns-in-Accepted c left right =
-    let d = start c.before.before in
+    let d = start (goal.at.returns-in-Accepted c).In-Accepted in
     let a = d.args in
     let card = lent a.xs.now a.ys.now a.ms.now a.cs.now left right in
     let looks = (found a.xs.now a.minute).looks in
     c.read_gap.ensures left right
-    ∙ ap₂ (λ n i. answered n (given (spell_of card i a.minute))) (ap (λ (l : Left). l.looks) c.find-gap.ensures) (left_is c.before).0
-    ∙ ap (λ v. answered looks (v then given (spell_of card (gap_of a.xs.now a.minute) a.minute))) (sym (inside c.before.before))
+    ∙ ap₂ (λ n i. answered n (given (spell_of card i a.minute))) (ap (λ (l : Left). l.looks) c.find-gap.ensures) (left_is (goal.at.returns-in-Accepted c).After-find-gap).0
+    ∙ ap (λ v. answered looks (v then given (spell_of card (gap_of a.xs.now a.minute) a.minute))) (sym (inside (goal.at.returns-in-Accepted c).In-Accepted))
 
 pub returns-in-Refused : goal.returns-in-Refused
 unfolding answer_at reading_order ◌then◌
 returns-in-Refused c left right =
-    let d = c.before.before.before.before.before.before in
+    let d = (goal.at.returns-in-Refused c).Start in
     let a = d.args in
     let card = lent a.xs.now a.ys.now a.ms.now a.cs.now left right in
     c.refused.ensures
@@ -47,4 +47,4 @@ returns-in-Refused c left right =
 
 pub read_gap-requires : goal.read_gap-requires
 read_gap-requires c =
-    record { checked = (start c.before).requires.0; in_place = (left_is c).1 }
+    record { checked = (start (goal.at.read_gap-requires c).In-Accepted).requires.checked; in_place = (left_is c).1 }

@@ -19,7 +19,7 @@ use Rattle.lists.specs.declared.Spell.{Spell}
 use Rattle.lists.specs.Lists.{spell_of}
 use Rattle.lists.proofs.Settled.{spelt_asks}
 use Rattle.lists.proofs.read_gap.Goals as goal
-use Rattle.lists.proofs.read_gap.Goals.{After-between-r, After-struct_told-2-1}
+use Rattle.lists.proofs.read_gap.Goals.{After-between-r, After-struct_told-2-1, Start}
 
 -- a field as it is passed on
 module _ (c : After-struct_told-2-1) where
@@ -34,7 +34,7 @@ module _ (c : After-struct_told-2-1) where
 
 pub between-r-requires : goal.between-r-requires
 between-r-requires c =
-    let d = c.before.before.before.before.before.before in
+    let d = (goal.at.between-r-requires c).Start in
     spelt_asks d.requires.checked d.requires.in_place c.spell_at-spell.ensures (h_is c) (t_is c)
 
 abbrev between_of : Spell → Reading
@@ -45,9 +45,9 @@ unfolding knot gap
 read_is c left right =
     let a = c.args in
     let card = lent a.xs.now a.ys.now a.ms.now a.cs.now left right in
-    let s = spell c.before in
+    let s = spell (goal.at.After-between-r c).After-struct_told-2-1 in
     c.between-r.ensures
-    ∙ ap₂ (λ h t. shown (reads (placed 0 s.from) (placed (nat_abs h) s.to) (nat_abs t))) (h_is c.before) (t_is c.before)
+    ∙ ap₂ (λ h t. shown (reads (placed 0 s.from) (placed (nat_abs h) s.to) (nat_abs t))) (h_is (goal.at.After-between-r c).After-struct_told-2-1) (t_is (goal.at.After-between-r c).After-struct_told-2-1)
     ∙ ap between_of c.spell_at-spell.ensures
     ∙ ap shown (reads_by_gap (knot card a.gap.first) (knot card (a.gap.first + 1)) (a.minute - get_or a.xs.now a.gap.first 0))
 
@@ -55,7 +55,7 @@ pub returns : goal.returns
 unfolding shown
 returns c left right =
     let r = c.between-r.result in
-    let e = read_is c.before left right in
+    let e = read_is (goal.at.returns c).After-between-r left right in
     λ j.
     record {
       number = 0;

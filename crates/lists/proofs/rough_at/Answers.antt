@@ -5,6 +5,7 @@ use mathlib.Core.Bool.{or-true}
 use borrow.Author.Rules.{rules}
 use Rattle.answer.specs.Answer.{refuse}
 use Rattle.lists.proofs.rough_at.Goals as goal
+use Rattle.lists.proofs.rough_at.Goals.{Else-jumps_at}
 
 pub returns-then-jumps_at : goal.returns-then-jumps_at
 unfolding refuse
@@ -17,5 +18,5 @@ returns-then-jumps_at-2 c i = rw (sym c.jumps_at-2.ensures ∙ c.if-jumps_at-2.t
 pub returns : goal.returns
 unfolding refuse
 returns c i =
-    let d = c.before.before.before.before in
+    let d = (goal.at.returns c).Else-jumps_at in
     rw (sym d.jumps_at.ensures ∙ d.if-jumps_at.false, sym c.jumps_at-2.ensures ∙ c.if-jumps_at-2.false)

@@ -46,7 +46,7 @@ loop-i-init c =
 
 module _ (c : After-spans_at-after) where
   abbrev d : Start
-  d = c.before.before.before.before.before.before
+  d = (goal.at.After-spans_at-after c).Start
 
   abbrev i : ℕ
   i = c.loop-i.i
@@ -86,7 +86,7 @@ module _ (c : After-spans_at-after) where
   small Fourth = omega arith
 
   meets : (o : Order) → Meeting (of_order o c.loop-i.before) (of_order o c.spans_at-after.result)
-  meets o = subst (λ l. Meeting l (of_order o c.spans_at-after.result)) (sym (left_is o)) (subst (λ r. Meeting (left_span o) r) (sym (right_is o)) (meeting_if (tests d.args.kind o) o (settled_knot d.pre i here (square_of d.args.kind o) (small o))))
+  meets o = subst (λ l. Meeting l (of_order o c.spans_at-after.result)) (sym (left_is o)) (subst (λ r. Meeting (left_span o) r) (sym (right_is o)) (meeting_if (tests d.args.kind o) o (settled_knot d.requires i here (square_of d.args.kind o) (small o))))
 
   finds : (o : Order) →
       (let a = d.args in
@@ -94,12 +94,12 @@ module _ (c : After-spans_at-after) where
       ≡ jumps (kind_of a.kind) (joint (lent a.xs.now a.ys.now a.ms.now a.cs.now a.left a.right) i) (order_of o))
   finds o =
       let a = d.args in
-      asked_jumps a.kind o a.left a.right a.xs.now a.ys.now a.ms.now a.cs.now i c.code_at-code.ensures (left_is o) (right_is o) d.pre here
+      asked_jumps a.kind o a.left a.right a.xs.now a.ys.now a.ms.now a.cs.now i c.code_at-code.ensures (left_is o) (right_is o) d.requires here
 
 found : (c : After-rough_at-number) →
-    (let a = (d c.before).args in smooth (kind_of a.kind) (lent a.xs.now a.ys.now a.ms.now a.cs.now a.left a.right) (i c.before) ≡ numbered c.rough_at-number.result (i c.before))
+    (let a = (d (goal.at.After-rough_at-number c).After-spans_at-after).args in smooth (kind_of a.kind) (lent a.xs.now a.ys.now a.ms.now a.cs.now a.left a.right) (i (goal.at.After-rough_at-number c).After-spans_at-after) ≡ numbered c.rough_at-number.result (i (goal.at.After-rough_at-number c).After-spans_at-after))
 unfolding smooth
-found c = sym (ap₂ (λ t f. refuse 10 (i c.before) (t || f)) (finds c.before Third) (finds c.before Fourth)) ∙ c.rough_at-number.ensures (i c.before)
+found c = sym (ap₂ (λ t f. refuse 10 (i (goal.at.After-rough_at-number c).After-spans_at-after) (t || f)) (finds (goal.at.After-rough_at-number c).After-spans_at-after Third) (finds (goal.at.After-rough_at-number c).After-spans_at-after Fourth)) ∙ c.rough_at-number.ensures (i (goal.at.After-rough_at-number c).After-spans_at-after)
 
 -- the gap on the right of a knot is the one on the left of the next
 next_gap : (xs : List ℕ) (i : ℕ) → i + 1 < length xs → right_gap xs i ≡ left_gap xs (i + 1)
@@ -116,9 +116,9 @@ next_spans kind xs ys ms cs i l =
 
 pub loop-i-preserved : goal.loop-i-preserved
 loop-i-preserved c =
-    let s = c.before.before in
+    let s = (goal.at.loop-i-preserved c).After-spans_at-after in
     let a = (d s).args in (
-      rest_goes_on s.loop-i.invariant.0 (here s) (found c.before) c.if-number-gt0.false,
+      rest_goes_on s.loop-i.invariant.0 (here s) (found (goal.at.loop-i-preserved c).After-rough_at-number) c.if-number-gt0.false,
       λ l. s.spans_at-after.ensures.0 ∙ next_spans a.kind a.xs.now a.ys.now a.ms.now a.cs.now (i s) l,
     )
 
@@ -132,13 +132,13 @@ pub rough_at-number-requires : goal.rough_at-number-requires
 rough_at-number-requires c = (meets c Third, meets c Fourth)
 
 pub overflow_cast-result : goal.overflow_cast-result
-overflow_cast-result c = omega (arith, (d c.before.before).pre.long.few)
+overflow_cast-result c = omega (arith, (d (goal.at.overflow_cast-result c).After-spans_at-after).requires.long.few)
 
 pub returns-then-number-gt0 : goal.returns-then-number-gt0
-returns-then-number-gt0 c = rest_refuses c.loop-i.invariant.0 (omega arith) (found c.before) c.if-number-gt0.true
+returns-then-number-gt0 c = rest_refuses c.loop-i.invariant.0 (omega arith) (found (goal.at.returns-then-number-gt0 c).After-rough_at-number) c.if-number-gt0.true
 
 pub overflow_add-i : goal.overflow_add-i
-overflow_add-i c = omega (arith, (d c.before.before).pre.long.few)
+overflow_add-i c = omega (arith, (d (goal.at.overflow_add-i c).After-spans_at-after).requires.long.few)
 
 pub returns : goal.returns
 returns c = rest_accepts c.loop-i.invariant.0 (omega arith)

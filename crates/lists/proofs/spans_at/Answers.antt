@@ -37,7 +37,7 @@ module _ {s h s' h' : ℤ} {a b a' b' : Knot} (e : Handed s h s' h' a b a' b') w
   spans_same asked = rw (e.square-is, e.h_is, e.a-is, e.b-is)
 
 abbrev start : After-right_gap-h → Start
-start c = c.before.before.before.before.before
+start c = (goal.at.After-right_gap-h c).Start
 
 abbrev numbers : Start → ℕ → Knot
 numbers c = numbers_at c.args.ys.now c.args.ms.now c.args.cs.now
@@ -55,7 +55,7 @@ handed : (c : After-right_gap-h) →
 handed c =
     record {
       square_is = to_z_pos w64 (omega (arith, small c));
-      h_is = to_z_pos w64 (omega (arith, c.right_gap-h.type-inv)) ∙ ap pos c.right_gap-h.ensures;
+      h_is = to_z_pos w64 (omega (arith, c.right_gap-h.type_inv)) ∙ ap pos c.right_gap-h.ensures;
       a_is = c.knot_at-here.ensures;
       b_is = c.knot_at-after.ensures ∙ ap (numbers (start c)) c.on.ensures;
     }
@@ -64,7 +64,7 @@ pub of-requires : goal.of-requires
 of-requires c =
     let t = let d = start c in
     let low = le_of_lt (small c) in
-    asks_same (handed c) (right_held (settled_knot d.pre.0 d.args.i d.pre.1 (square_of d.args.kind Third) low).beside) low in record { held = t.0; square_bound = t.1 }
+    asks_same (handed c) (right_held (settled_knot d.requires.checked d.args.i d.requires.i_in_bounds (square_of d.args.kind Third) low).beside) low in record { held = t.0; square_bound = t.1 }
 
 pub returns : goal.returns
-returns c = (c.of.ensures ∙ spans_same (handed c.before) (start c.before).args.kind.fourth, small c.before)
+returns c = (c.of.ensures ∙ spans_same (handed (goal.at.returns c).After-right_gap-h) (start (goal.at.returns c).After-right_gap-h).args.kind.fourth, small (goal.at.returns c).After-right_gap-h)

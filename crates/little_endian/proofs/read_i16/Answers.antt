@@ -9,4 +9,4 @@ use Rattle.little_endian.proofs.read_i16.Goals as goal
 
 pub returns : goal.returns
 unfolding signed_at
-returns c = passed w16 _ c.signed16.type-inv ∙ c.signed16.ensures ∙ ap (to_z w16) c.read_u16.ensures
+returns c = passed w16 _ c.signed16.type_inv ∙ c.signed16.ensures ∙ ap (to_z w16) c.read_u16.ensures

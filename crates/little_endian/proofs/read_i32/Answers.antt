@@ -9,4 +9,4 @@ use Rattle.little_endian.proofs.read_i32.Goals as goal
 
 pub returns : goal.returns
 unfolding signed_at
-returns c = passed w32 _ c.signed32.type-inv ∙ c.signed32.ensures ∙ ap (to_z w32) c.read_u32.ensures
+returns c = passed w32 _ c.signed32.type_inv ∙ c.signed32.ensures ∙ ap (to_z w32) c.read_u32.ensures

@@ -21,10 +21,10 @@ new_fits : (c : After-is_hole) → (let a = c.args in SFits w16 (get_or a.mended
 new_fits c = record { sfits = c.new-1.given }
 
 pub overflow_cast-result-then-is_hole : goal.overflow_cast-result-then-is_hole
-overflow_cast-result-then-is_hole c = widened_fits w32 (old_fits c.before) (omega arith)
+overflow_cast-result-then-is_hole c = widened_fits w32 (old_fits (goal.at.overflow_cast-result-then-is_hole c).After-is_hole) (omega arith)
 
 pub overflow_cast-result-then-is_hole-2 : goal.overflow_cast-result-then-is_hole-2
-overflow_cast-result-then-is_hole-2 c = widened_fits w32 (new_fits c.before) (omega arith)
+overflow_cast-result-then-is_hole-2 c = widened_fits w32 (new_fits (goal.at.overflow_cast-result-then-is_hole-2 c).After-is_hole) (omega arith)
 
 tested : (c : After-is_hole) → (let a = c.args in c.is_hole.result ≡ hole_at a.sheet.now a.i)
 unfolding hole_at
@@ -34,7 +34,7 @@ pub returns-then-is_hole : goal.returns-then-is_hole
 unfolding change_at
 returns-then-is_hole c =
     let a = c.args in
-    rw (widened_is w32 (old_fits c.before) (omega arith), widened_is w32 (new_fits c.before) (omega arith), ← tested c.before, c.if-is_hole.true)
+    rw (widened_is w32 (old_fits (goal.at.returns-then-is_hole c).After-is_hole) (omega arith), widened_is w32 (new_fits (goal.at.returns-then-is_hole c).After-is_hole) (omega arith), ← tested (goal.at.returns-then-is_hole c).After-is_hole, c.if-is_hole.true)
 
 pub returns : goal.returns
-returns c = rw (← tested c.before, c.if-is_hole.false)
+returns c = rw (← tested (goal.at.returns c).After-is_hole, c.if-is_hole.false)

@@ -24,15 +24,15 @@ length_mended : (c : After-filled-mended) → (let n = length c.before.before.be
 length_mended c = ap length (mended_is c) ∙ length_filled _ _ Line
 
 pub slice_bounds-settle-end : goal.slice_bounds-settle-end
-slice_bounds-settle-end c = sym (length_mended c.before)
+slice_bounds-settle-end c = sym (length_mended (goal.at.slice_bounds-settle-end c).After-filled-mended)
 
 pub settle-requires : goal.settle-requires
 settle-requires c =
     let alike = c.before.before.before.before.before.before.before.before.before.before.before.requires in
-    (omega (arith, alike.many, alike.ordinates), length_mended c.before.before.before.before)
+    (omega (arith, alike.many, alike.ordinates), length_mended (goal.at.settle-requires c).After-filled-mended)
 
 pub returns-in-Accepted : goal.returns-in-Accepted
-returns-in-Accepted c = plans_along (step_passes _ c.mendable.ensures c.enum_told.given.1 refl) (rw (mended_is c.before.before.before.before.before.before.before.before) at c.settle.ensures)
+returns-in-Accepted c = plans_along (step_passes _ c.mendable.ensures c.enum_told.given.1 refl) (rw (mended_is (goal.at.returns-in-Accepted c).After-filled-mended) at c.settle.ensures)
 
 pub returns-in-Refused : goal.returns-in-Refused
 returns-in-Refused c = plans_along (step_refuses _ c.mendable.ensures c.in-Refused.is) (plans_refused c.unchanged.ensures)

@@ -14,6 +14,7 @@ use Rattle.front.specs.Front.{from}
 use Rattle.front.proofs.Listed.{listed_is}
 use Rattle.front.proofs.Filled.{Filled, filled_none, filled_more}
 use Rattle.mend.proofs.write.Goals as goal
+use Rattle.mend.proofs.write.Goals.{Start}
 
 pub loop-i-init : goal.loop-i-init
 loop-i-init c = (omega arith, filled_none)
@@ -30,7 +31,7 @@ loop-i-preserved c =
 
 pub returns : goal.returns
 returns c =
-    let s = c.before.before in
+    let s = (goal.at.returns c).Start in
     let l = c.loop-i in
     let all : l.i ≡ length s.args.out.now = omega arith in
     l.invariant.1.is ∙ rw (all, drop-length s.args.out.now, append-nil) (listed_is (pos 0) (from (pos 0) s.args.values.now) s.args.values.now refl s.requires (λ j h. refl))

@@ -36,7 +36,7 @@ module _ (xs : List ℕ) (minute : ℕ) (l : Left) (more : 1 < l.gaps) {l' : Lef
           }
 
 abbrev start : After-look-left → Start
-start c = c.before.before.before.before.before.before.before.before
+start c = (goal.at.After-look-left c).Start
 
 pub loop-left-smaller : goal.loop-left-smaller
 loop-left-smaller c =

@@ -7,6 +7,7 @@ use borrow.Author.Rules.{rules}
 use lib.ListN.{get_or}
 use Rattle.curve.specs.Card.{back}
 use Rattle.minutes.proofs.left_gap.Goals as goal
+use Rattle.minutes.proofs.left_gap.Goals.{Start}
 
 pub offset_bounds-xs-before : goal.offset_bounds-xs-before
 unfolding back
@@ -21,5 +22,5 @@ gap-requires c = search rules
 
 pub returns : goal.returns
 returns c =
-    let d = c.before.before.before.before.before in
+    let d = (goal.at.returns c).Start in
     c.gap.ensures ∙ ap (λ k. get_or d.args.xs.now d.args.i 0 - get_or d.args.xs.now k 0) c.back-before.ensures

@@ -12,21 +12,22 @@ use Rattle.units.specs.Units.{held}
 use Rattle.numbers.specs.Numbers.{slope_at, curvature_at}
 use Rattle.numbers.proofs.Finite.{finite_numbers}
 use Rattle.numbers.proofs.scale.Goals as goal
+use Rattle.numbers.proofs.scale.Goals.{Start}
 
 pub loop-k-init : goal.loop-k-init
 loop-k-init c = (omega arith, filled_none, filled_none)
 
 pub units_of-slope-requires : goal.units_of-slope-requires
 units_of-slope-requires c =
-    let s = c.before.before.before in
+    let s = (goal.at.units_of-slope-requires c).Start in
     let k = c.loop-k.k in
-    (finite_numbers (get_or s.args.t1 k no_pair) (s.requires.all_finite k (omega (arith, s.requires.n_le_most)))).0
+    (finite_numbers (get_or s.args.pairs k no_pair) (s.requires.all_finite k (omega (arith, s.requires.n_le_most)))).0
 
 pub units_of-curvature-requires : goal.units_of-curvature-requires
 units_of-curvature-requires c =
-    let s = c.before.before.before.before in
+    let s = (goal.at.units_of-curvature-requires c).Start in
     let k = c.loop-k.k in
-    (finite_numbers (get_or s.args.t1 k no_pair) (s.requires.all_finite k (omega (arith, s.requires.n_le_most)))).1
+    (finite_numbers (get_or s.args.pairs k no_pair) (s.requires.all_finite k (omega (arith, s.requires.n_le_most)))).1
 
 pub loop-k-preserved : goal.loop-k-preserved
 loop-k-preserved c =

@@ -14,6 +14,7 @@ use Rattle.front.proofs.Listed.{front_listed}
 use Rattle.front.proofs.Filled.{Filled, filled_none, filled_more}
 use Rattle.passes.specs.Sheet.{most}
 use Rattle.numbers.proofs.write.Goals as goal
+use Rattle.numbers.proofs.write.Goals.{Start}
 
 pub loop-i-init : goal.loop-i-init
 loop-i-init c = (omega arith, search rules, filled_none)
@@ -23,17 +24,17 @@ loop-i-smaller c = simp length-set (omega arith)
 
 pub loop-i-preserved : goal.loop-i-preserved
 loop-i-preserved c =
-    let s = c.before.before.before in
+    let s = (goal.at.loop-i-preserved c).Start in
     let l = c.loop-i in
-    let v = get_or s.args.t2 l.i (pos 0) in
+    let v = get_or s.args.values l.i (pos 0) in
     let e : to_z w32 (of_z w32 v) ≡ v = search rules in
     (simp length-set (omega arith), l.invariant.1, filled_more l.invariant.2 (omega arith) e)
 
 pub returns : goal.returns
 returns c =
-    let s = c.before.before in
+    let s = (goal.at.returns c).Start in
     let l = c.loop-i in
     let out = s.args.out.now in
-    let values = s.args.t2 in
+    let values = s.args.values in
     let all : l.i ≡ length out = omega arith in
     l.invariant.2.is ∙ rw (all, drop-length out, append-nil) (sym (front_listed (pos 0) values (length out) (omega (arith, l.invariant.1, s.requires))))

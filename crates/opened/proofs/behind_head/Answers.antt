@@ -13,7 +13,7 @@ use Rattle.card_bytes.specs.Records.{records_due}
 use Rattle.opened.specs.Steps.{limited, behind_head}
 use borrow.Author.Rules.{rules}
 use Rattle.opened.proofs.behind_head.Goals as goal
-use Rattle.opened.proofs.behind_head.Goals.{After-first}
+use Rattle.opened.proofs.behind_head.Goals.{After-counted, After-first}
 
 -- every kind has the same limits of count
 limits_are : (c : After-first)
@@ -22,17 +22,17 @@ limits_are : (c : After-first)
     verdict_of c.first.result ≡ limited (kind_of a.kind) (count_at s) (num_at 2 s 6) (num_at 2 s 8))
 unfolding limited counted
 limits_are c =
-    let r = c.before.before in
+    let r = (goal.at.After-first c).After-counted in
     c.first.ensures
     ∙ ap₂ (λ v w. v then w) (c.counted.ensures ∙ ap (counted quintic) r.read_u16-n.ensures)
     (c.codes.ensures ∙ ap₂ (codes _) r.read_u16-left.ensures r.read_u16-right.ensures)
 
 pub returns-in-Refused : goal.returns-in-Refused
 unfolding behind_head
-returns-in-Refused c = step_refuses _ (limits_are c.before.before.before) c.in-Refused.is
+returns-in-Refused c = step_refuses _ (limits_are (goal.at.returns-in-Refused c).After-first) c.in-Refused.is
 
 pub returns-in-Accepted : goal.returns-in-Accepted
 unfolding behind_head
 returns-in-Accepted c =
-    let l = c.before.before.before in
+    let l = (goal.at.returns-in-Accepted c).After-first in
     step_passes _ (limits_are l) c.in-Accepted.is (c.records_due.ensures ∙ ap (records_due _) l.read_u16-n.ensures)

@@ -16,8 +16,8 @@ headed c = rw c.sloped-sloped.ensures at c.is_at.ensures
 
 pub returns-then-is_at : goal.returns-then-is_at
 unfolding carried_by
-returns-then-is_at c = c.sloped-sloped.ensures ∙ ap (λ b. cond b sloped_card quintic_card) (sym c.if-is_at.true ∙ headed c.before)
+returns-then-is_at c = c.sloped-sloped.ensures ∙ ap (λ b. cond b sloped_card quintic_card) (sym c.if-is_at.true ∙ headed (goal.at.returns-then-is_at c).After-is_at)
 
 pub returns : goal.returns
 unfolding carried_by
-returns c = c.quintic.ensures ∙ ap (λ b. cond b sloped_card quintic_card) (sym c.if-is_at.false ∙ headed c.before.before)
+returns c = c.quintic.ensures ∙ ap (λ b. cond b sloped_card quintic_card) (sym c.if-is_at.false ∙ headed (goal.at.returns c).After-is_at)

@@ -20,7 +20,7 @@ arm : (c : Start) {r : Knot} {q : Quantity} → r ≡ seen q c.args.k → c.args
 arm c e p = e ∙ ap (λ q. seen q c.args.k) (sym p)
 
 abbrev start : After-struct_told-in-Slope-2-1 → Start
-start c = c.before.before.before.before.before
+start c = (goal.at.After-struct_told-in-Slope-2-1 c).Start
 
 abbrev args : After-struct_told-in-Slope-2-1 → List Src
 args c = let k = (start c).args.k in held k.ordinate ∷ held k.slope ∷ held k.curvature ∷ []
@@ -33,7 +33,7 @@ curvature c = record { left = record { sfits = c.struct_told-in-Slope-2-1.given.
 
 pub returns-in-Value : goal.returns-in-Value
 unfolding seen
-returns-in-Value c = arm c.before.before.before c.mirrored.ensures c.in-Value.is
+returns-in-Value c = arm (goal.at.returns-in-Value c).Start c.mirrored.ensures c.in-Value.is
 
 pub returns-in-Slope : goal.returns-in-Slope
 unfolding seen
@@ -49,7 +49,7 @@ returns-in-Slope c =
 
 pub returns-in-Curvature : goal.returns-in-Curvature
 unfolding seen
-returns-in-Curvature c = arm c.before.before.before c.mirrored-in-Curvature.ensures c.in-Curvature.is
+returns-in-Curvature c = arm (goal.at.returns-in-Curvature c).Start c.mirrored-in-Curvature.ensures c.in-Curvature.is
 
 pub overflow_sub-result : goal.overflow_sub-result
 overflow_sub-result c = does w64 (args c) (:neg y) (ordinate c)

@@ -11,6 +11,7 @@ use borrow.Author.Tests.{eq-eqb, ne_eqb}
 use Rattle.passes.specs.Sheet.{right_gap}
 use borrow.Author.Rules.{rules}
 use Rattle.passes.proofs.gap_after.Goals as goal
+use Rattle.passes.proofs.gap_after.Goals.{Start}
 
 pub overflow_sub-minutes : goal.overflow_sub-minutes
 overflow_sub-minutes c = le_of_lt (c.requires.rising c.args.i (omega arith))
@@ -22,7 +23,7 @@ returns-then-i-minutes c = simp (c.empty_gap.ensures, eq-eqb _ _ c.if-i-minutes.
 pub returns-else-i-minutes : goal.returns-else-i-minutes
 unfolding right_gap
 returns-else-i-minutes c =
-    let s = c.before.before.before.before.before.before.before in
+    let s = (goal.at.returns-else-i-minutes c).Start in
     let ordinates = s.args.ordinates.now in
     let i = s.args.i in
     let y : to_z w16 (of_z w16 (get_or ordinates i (pos 0))) ≡ get_or ordinates i (pos 0) = search rules in

@@ -44,7 +44,7 @@ whole c = forward-then-back _ _ _ _ c.forward_pass-f.ensures (omega (arith, c.if
 pub returns-else-finite_pair : goal.returns-else-finite_pair
 unfolding back_from
 returns-else-finite_pair c =
-    let e1 = c.before.before.before.before.before.before.before.before in
+    let e1 = (goal.at.returns-else-finite_pair c).Else-f-ne0 in
     let s = e1.args in
     let l = c.loop-j in
     let n = length s.minutes.now in
@@ -57,7 +57,7 @@ returns-else-finite_pair c =
 
 pub loop-j-preserved : goal.loop-j-preserved
 loop-j-preserved c =
-    let e1 = c.before.before.before.before.before.before.before in
+    let e1 = (goal.at.loop-j-preserved c).Else-f-ne0 in
     let s = e1.args in
     let l = c.loop-j in
     let n = length s.minutes.now in
@@ -78,7 +78,7 @@ loop-j-preserved c =
 pub returns : goal.returns
 unfolding back_from
 returns c =
-    let e1 = c.before.before.before in
+    let e1 = (goal.at.returns c).Else-f-ne0 in
     let s = e1.args in
     let l = c.loop-j in
     let n = length s.minutes.now in

@@ -37,7 +37,7 @@ asked-requires c = let s = sound (accepts c) in (omega (arith, s.least), omega (
 
 module _ (c : In-Accepted-asked) where
   abbrev d : In-Accepted
-  d = c.before.before.before
+  d = (goal.at.In-Accepted-asked c).In-Accepted
 
   abbrev parts : ℕ
   parts = d.before.before.before.args.parts
@@ -56,7 +56,7 @@ value_in-requires c = let a =
     all_asked c in record { sound = sound (accepts (d c)); fewest_parts_le_parts = (a.least, a.most, a.within) }
 
 small : (c : After-value_in) → nat_abs c.value_in.result ≤ 3 * quintic.ordinates
-small c = rw c.value_in.ensures (value_size (sound (accepts (d c.before))) (all_asked c.before).least (all_asked c.before).within)
+small c = rw c.value_in.ensures (value_size (sound (accepts (d (goal.at.After-value_in c).In-Accepted-asked))) (all_asked (goal.at.After-value_in c).In-Accepted-asked).least (all_asked (goal.at.After-value_in c).In-Accepted-asked).within)
 
 wide : (c : After-value_in) → In w64 (held c.value_in.result ∷ []) (± (3 * quintic.ordinates) ∷ [])
 wide c = record { each = (∈_abs (small c), tt) }
@@ -73,7 +73,7 @@ returns-in-Refused c = c.refused.ensures ∙ ap heated (sym (not_checked _ _ _ (
 
 pub returns-in-Refused-asked : goal.returns-in-Refused-asked
 returns-in-Refused-asked c =
-    let d = c.before.before.before.before.before in
+    let d = (goal.at.returns-in-Refused-asked c).In-Accepted in
     c.refused-in-Refused-asked.ensures ∙ ap heated (sym (not_asked _ _ _ (accepts d) (step_refused c.asked.ensures c.in-Refused-asked.is)))
 
 abbrev answer : ℤ → Heated
@@ -83,4 +83,4 @@ pub returns-in-Accepted-asked : goal.returns-in-Accepted-asked
 unfolding quintic
 returns-in-Accepted-asked c =
     ap answer (asks (wide c) (v0 ∷ []) (λ z. to_z w32 (of_z w32 z) ≡ c.value_in.result) tt (back (narrow c) v0 tt) ∙ c.value_in.ensures)
-    ∙ ap heated (sym (answered _ _ _ (accepts (d c.before)) (asked_for c.before)))
+    ∙ ap heated (sym (answered _ _ _ (accepts (d (goal.at.returns-in-Accepted-asked c).In-Accepted-asked)) (asked_for (goal.at.returns-in-Accepted-asked c).In-Accepted-asked)))

@@ -34,7 +34,7 @@ pub step_of-i-requires : goal.step_of-i-requires
 step_of-i-requires c = (at_least_two c, omega (arith, c.requires.fewest_parts_le_parts.0))
 
 fallen : (c : After-step_of-i) → Falls (length c.args.ys.now) c.args.parts c.args.count c.step_of-i.result
-fallen c = let s = c.before in rw c.step_of-i.ensures (falls (length s.args.ys.now) s.args.parts s.args.count (at_least_two s) (omega (arith, s.requires.fewest_parts_le_parts.0)) s.requires.fewest_parts_le_parts.2)
+fallen c = let s = (goal.at.After-step_of-i c).Start in rw c.step_of-i.ensures (falls (length s.args.ys.now) s.args.parts s.args.count (at_least_two s) (omega (arith, s.requires.fewest_parts_le_parts.0)) s.requires.fewest_parts_le_parts.2)
 
 pub overflow_mul-past : goal.overflow_mul-past
 overflow_mul-past c = omega (arith, (fallen c).low)
@@ -43,19 +43,19 @@ pub at-pair-requires : goal.at-pair-requires
 at-pair-requires c = (c.requires.sound, (fallen c).inside)
 
 pub overflow_sub-ys : goal.overflow_sub-ys
-overflow_sub-ys c = at_least_two c.before.before
+overflow_sub-ys c = at_least_two (goal.at.overflow_sub-ys c).Start
 
 past_in : (c : After-step_of-i) → pos (c.args.count - c.step_of-i.result * c.args.parts) ∈ pos 0 to pos most_parts
 past_in c = record { low = ℕ_le (omega arith); high = ℕ_le (omega (arith, (fallen c).high, c.requires.fewest_parts_le_parts.1)) }
 
 pub overflow_cast-past : goal.overflow_cast-past
-overflow_cast-past c = fits_∈ (past_in c.before.before.before.before) tt
+overflow_cast-past c = fits_∈ (past_in (goal.at.overflow_cast-past c).After-step_of-i) tt
 
 -- ---- what was read of the table
 
 module _ (c : After-struct_told-2-1) where
   abbrev d : After-step_of-i
-  d = c.before.before.before.before.before.before
+  d = (goal.at.After-struct_told-2-1 c).After-step_of-i
 
   abbrev ys : List ℤ
   ys = d.before.args.ys.now
@@ -101,13 +101,13 @@ module _ (c : After-struct_told-2-1) where
   z'_is = ap (λ p. p.next) c.at-pair.ensures
 
   here : InStep (pos (scale ys)) (pos parts) (pos past) (y ys i) (y ys (suc i)) (unknown ys i) (unknown ys (suc i))
-  here = in_step d.before.pre.0 (fallen d) d.before.pre.1.0 d.before.pre.1.1
+  here = in_step d.before.requires.sound (fallen d) d.before.requires.fewest_parts_le_parts.0 d.before.requires.fewest_parts_le_parts.1
 
   all :
       In w64 (held a ∷ held (pos parts) ∷ held (pos past) ∷ held u ∷ held u' ∷ held z ∷ held z' ∷ [])
       (pos 1 to pos largest ∷ pos 1 to pos most_parts ∷ pos 0 to pos most_parts ∷ ± quintic.ordinates ∷ ± quintic.ordinates ∷ ± most_unknown ∷ ± most_unknown ∷ [])
   all =
-      let s = d.before.pre.0 in
+      let s = d.before.requires.sound in
       record {
         each = (
           rw a_is (scale_in s),
@@ -136,9 +136,9 @@ rounded-requires c =
 pub returns : goal.returns
 unfolding quintic
 returns c =
-    let e = c.before in
+    let e = (goal.at.returns c).After-struct_told-2-1 in
     let s = (d e).before in
-    to_z-of_z {w = w64} (record { sfits = c.rounded.type-inv })
+    to_z-of_z {w = w64} (record { sfits = c.rounded.type_inv })
     ∙ gives (all e) seven (λ a q r u u' z z'. c.rounded.result ≡ nearest (worth (piece a q u u' z z') r) (nat_abs (a *ℤ (q *ℤ q *ℤ q)))) tt c.rounded.ensures
     ∙ moved₅ (λ a u u' z z'. nearest (worth (piece a (pos (parts e)) u u' z z') (pos (past e))) (nat_abs (a *ℤ (pos (parts e) *ℤ pos (parts e) *ℤ pos (parts e)))) ≡ value (ys e) (parts e) s.args.count)
     (a_is e) (u_is e) (u'_is e) (z_is e) (z'_is e) (value_is (ys e) (parts e) s.args.count (i e) (d e).step_of.ensures)
@@ -150,10 +150,10 @@ pub entry-scale-requires : goal.entry-scale-requires
 entry-scale-requires c = entered c.requires.sound
 
 pub value_at-y0-requires : goal.value_at-y0-requires
-value_at-y0-requires c = omega (arith, (fallen c.before.before).inside)
+value_at-y0-requires c = omega (arith, (fallen (goal.at.value_at-y0-requires c).After-step_of-i).inside)
 
 pub overflow_add-i : goal.overflow_add-i
-overflow_add-i c = omega (arith, (fallen c.before.before.before).inside)
+overflow_add-i c = omega (arith, (fallen (goal.at.overflow_add-i c).After-step_of-i).inside)
 
 pub value_at-y1-requires : goal.value_at-y1-requires
-value_at-y1-requires c = (fallen c.before.before.before).inside
+value_at-y1-requires c = (fallen (goal.at.value_at-y1-requires c).After-step_of-i).inside

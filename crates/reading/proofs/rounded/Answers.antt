@@ -28,41 +28,41 @@ within c = minute_in c.requires.in_gap
 numerator_is : (c : After-numerator) → (let a = c.args in c.numerator.result ≡ worth (∂^ (derivative a.q) (drawn a.h a.a a.b)) a.t)
 numerator_is c =
     let a = c.args in
-    gives (within c.before) (v0 ∷ v1 ∷ []) (λ h t. c.numerator.result ≡ worth (∂^ (derivative a.q) (drawn h a.a a.b)) t) tt c.numerator.ensures
+    gives (within (goal.at.After-numerator c).Start) (v0 ∷ v1 ∷ []) (λ h t. c.numerator.result ≡ worth (∂^ (derivative a.q) (drawn h a.a a.b)) t) tt c.numerator.ensures
 
 pub denominator-requires : goal.denominator-requires
-denominator-requires c = asks (within c.before) (v0 ∷ v0 ∷ []) InGap tt (whole_gap c.requires.in_gap)
+denominator-requires c = asks (within (goal.at.denominator-requires c).Start) (v0 ∷ v0 ∷ []) InGap tt (whole_gap c.requires.in_gap)
 
 denominator_is : (c : After-denominator) → (let a = c.args in c.denominator.result ≡ under a.q * nat_abs a.h ^ 5)
 denominator_is c =
-    let d = c.before.before in
+    let d = (goal.at.After-denominator c).Start in
     gives (within d) (v0 ∷ []) (λ h. c.denominator.result ≡ under d.args.q * nat_abs h ^ 5) tt c.denominator.ensures
 
 abbrev number : After-denominator → List Src
 number c = held c.numerator.result ∷ []
 
 small : (c : After-denominator) → nat_abs c.numerator.result < 2 ^ 63
-small c = let d = c.before.before in rw (numerator_is c.before) (numerator_fits d.args.q d.requires.in_gap d.requires.tame)
+small c = let d = (goal.at.After-denominator c).Start in rw (numerator_is (goal.at.After-denominator c).After-numerator) (numerator_fits d.args.q d.requires.in_gap d.requires.tame)
 
 pub nearest-requires : goal.nearest-requires
 nearest-requires c =
-    let t = let d = c.before.before in
+    let t = let d = (goal.at.nearest-requires c).Start in
     asked w64 (number c) (v0 ∷ []) (λ n. (0 < c.denominator.result) × (nat_abs n < 2 ^ 63)) (abs_fits (small c), tt)
     (rw (denominator_is c) (denominator_positive d.args.q d.requires.in_gap d.requires.tame), small c) in record { d_nonzero = t.0; n_bound = t.1 }
 
 nearest_is : (c : After-nearest) → (let a = c.args in c.nearest.result ≡ rounds a.q a.h a.t a.a a.b)
 nearest_is c =
-    told w64 (number c.before) (v0 ∷ []) (λ n. c.nearest.result ≡ nearest n c.denominator.result) (abs_fits (small c.before), tt) c.nearest.ensures
-    ∙ ap₂ nearest (numerator_is c.before.before) (denominator_is c.before)
+    told w64 (number (goal.at.After-nearest c).After-denominator) (v0 ∷ []) (λ n. c.nearest.result ≡ nearest n c.denominator.result) (abs_fits (small (goal.at.After-nearest c).After-denominator), tt) c.nearest.ensures
+    ∙ ap₂ nearest (numerator_is (goal.at.After-nearest c).After-numerator) (denominator_is (goal.at.After-nearest c).After-denominator)
 
 fits : (c : After-nearest) → nat_abs c.nearest.result < 2 ^ 31
-fits c = let d = c.before.before.before in rw (nearest_is c) (reading_fits d.args.q d.requires.in_gap d.requires.tame)
+fits c = let d = (goal.at.After-nearest c).Start in rw (nearest_is c) (reading_fits d.args.q d.requires.in_gap d.requires.tame)
 
 pub overflow_cast-result : goal.overflow_cast-result
-overflow_cast-result c = asked w64 (held c.nearest.result ∷ []) (v0 ∷ []) (λ z. SFits w32 z) (record { sfits = c.nearest.type-inv }, tt) (abs_fits (fits c))
+overflow_cast-result c = asked w64 (held c.nearest.result ∷ []) (v0 ∷ []) (λ z. SFits w32 z) (record { sfits = c.nearest.type_inv }, tt) (abs_fits (fits c))
 
 pub returns : goal.returns
 returns c =
     let a = c.args in
-    asked w64 (held c.nearest.result ∷ []) (v0 ∷ []) (λ z. to_z w32 (of_z w32 z) ≡ rounds a.q a.h a.t a.a a.b) (record { sfits = c.nearest.type-inv }, tt)
+    asked w64 (held c.nearest.result ∷ []) (v0 ∷ []) (λ z. to_z w32 (of_z w32 z) ≡ rounds a.q a.h a.t a.a a.b) (record { sfits = c.nearest.type_inv }, tt)
     (to_z-of_z {w = w32} (abs_fits (fits c)) ∙ nearest_is c)

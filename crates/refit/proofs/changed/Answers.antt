@@ -7,13 +7,14 @@ use Rattle.decode.specs.Decoded.{decoded}
 use Rattle.refit.specs.Promise.{changed}
 use borrow.Author.Rules.{rules}
 use Rattle.refit.proofs.changed.Goals as goal
+use Rattle.refit.proofs.changed.Goals.{Start}
 
 pub slice_bounds-differing-end : goal.slice_bounds-differing-end
 slice_bounds-differing-end c = sym (length-take-le _ _ c.requires.full.slopes)
 
 pub differing-requires : goal.differing-requires
 differing-requires c =
-    let s = c.before.before.before in
+    let s = (goal.at.differing-requires c).Start in
     let n = length-take-le s.args.card.knots s.args.card.slopes s.requires.full.slopes in
     (omega (arith, n, s.requires.full.few), s.requires.slopes_len.0 ∙ sym n)
 
@@ -22,7 +23,7 @@ slice_bounds-differing-end-2 c = sym (length-take-le _ _ c.requires.full.curvatu
 
 pub differing-requires-2 : goal.differing-requires-2
 differing-requires-2 c =
-    let s = c.before.before.before.before.before in
+    let s = (goal.at.differing-requires-2 c).Start in
     let n = length-take-le s.args.card.knots s.args.card.curvatures s.requires.full.curvatures in
     (omega (arith, n, s.requires.full.few), s.requires.slopes_len.1 ∙ sym n)
 

@@ -12,13 +12,14 @@ use mir.ValLaws.{to_z-of_z}
 use borrow.Author.Rules.{rules}
 use Rattle.refit.proofs.Places.{Counted, counted_none, counted_same, counted_apart, counted_all}
 use Rattle.refit.proofs.differing.Goals as goal
+use Rattle.refit.proofs.differing.Goals.{Start}
 
 pub loop-i-init : goal.loop-i-init
 loop-i-init c = counted_none _
 
 pub loop-i-preserved : goal.loop-i-preserved
 loop-i-preserved c =
-    let s = c.before.before.before.before.before in
+    let s = (goal.at.loop-i-preserved c).Start in
     let l = c.loop-i in
     let a = get_or s.args.held.now l.i (pos 0) in
     let b = get_or s.args.anew.now l.i (pos 0) in
@@ -26,8 +27,8 @@ loop-i-preserved c =
     let told : (z : ℤ) → mag z < 2147483648 → to_z w32 (of_z w32 z) ≡ z = λ z h. to_z-of_z w32 z (record { sfits = h }) in
     let one_number : of_z w32 a ≡ of_z w32 b → a ≡ b = λ e. sym (told a c.t8-1.given) ∙ ap (to_z w32) e ∙ told b c.t11-1.given in
     ⊎_elim
-    (λ w. rw w.1 (counted_apart _ l.invariant (pos 0) more s.requires.1 (λ e. w.0.taken (ap (of_z w32) e))))
-    (λ w. rw w.1 (counted_same _ l.invariant (pos 0) more s.requires.1 (one_number w.0.left)))
+    (λ w. rw w.1 (counted_apart _ l.invariant (pos 0) more s.requires.1 (λ e. w.0.true (ap (of_z w32) e))))
+    (λ w. rw w.1 (counted_same _ l.invariant (pos 0) more s.requires.1 (one_number w.0.false)))
     c.if-held-i.branch
 
 pub returns : goal.returns

@@ -7,6 +7,7 @@ use Rattle.opened.proofs.Fronts.{knots_decoded}
 use Rattle.refit.proofs.Renewal.{fresh_of_ends, fresh_of_slopes}
 use borrow.Author.Rules.{rules}
 use Rattle.refit.proofs.fresh.Goals as goal
+use Rattle.refit.proofs.fresh.Goals.{Start}
 
 pub returns-then-kind : goal.returns-then-kind
 returns-then-kind c =
@@ -15,6 +16,6 @@ returns-then-kind c =
 
 pub returns : goal.returns
 returns c =
-    let s = c.before.before.before.before.before.before in
+    let s = (goal.at.returns c).Start in
     let d = s.args.card in
     fits_along (fresh_of_slopes s.args.kind (decoded d) c.if-kind.false (s.requires.slopes_len.1 ∙ sym (knots_decoded d s.requires.full.0))) c.fresh_by_slopes.ensures

@@ -10,6 +10,7 @@ use Rattle.opened.proofs.Fronts.{knots_decoded}
 use Rattle.refit.proofs.Given.{given_at, fresh_is}
 use borrow.Author.Rules.{rules}
 use Rattle.refit.proofs.fresh_between.Goals as goal
+use Rattle.refit.proofs.fresh_between.Goals.{After-fit_codes, After-hundredths, After-hundredths-2, After-hundredths-3, After-hundredths-4, Start}
 
 pub slice_bounds-fit_codes-end : goal.slice_bounds-fit_codes-end
 slice_bounds-fit_codes-end c = sym (length-take-le _ _ c.requires.full.0.minutes)
@@ -32,12 +33,12 @@ hundredths-requires-4 c = search rules
 pub returns : goal.returns
 unfolding decoded knot
 returns c =
-    let f = c.before.before in
-    let right = f.before in
-    let right-slope = right.before.before in
-    let left = right-slope.before.before in
-    let left-slope = left.before.before in
-    let s = left-slope.before.before.before.before.before.before.before.before.before.before in
+    let f = (goal.at.returns c).After-fit_codes in
+    let right = (goal.at.After-fit_codes f).After-hundredths-4 in
+    let right-slope = (goal.at.After-hundredths-4 right).After-hundredths-3 in
+    let left = (goal.at.After-hundredths-3 right-slope).After-hundredths-2 in
+    let left-slope = (goal.at.After-hundredths-2 left).After-hundredths in
+    let s = (goal.at.After-hundredths left-slope).Start in
     let d = s.args.card in
     let last : d.knots - 1 < d.knots = omega (arith, s.requires.full.1) in
     fits_along

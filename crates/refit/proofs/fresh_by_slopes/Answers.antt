@@ -8,6 +8,7 @@ use Rattle.slope_fit.proofs.Numbered.{slopes_fit_numbered}
 use Rattle.refit.proofs.Renewal.{given_back, left_alone}
 use borrow.Author.Rules.{rules}
 use Rattle.refit.proofs.fresh_by_slopes.Goals as goal
+use Rattle.refit.proofs.fresh_by_slopes.Goals.{Start}
 
 pub slice_bounds-fit-end : goal.slice_bounds-fit-end
 slice_bounds-fit-end c = sym (length-take-le _ _ c.requires.full.minutes)
@@ -21,7 +22,7 @@ slice_bounds-fit-end-3 c = sym (length-take-le _ _ c.requires.full.slopes)
 pub returns-then-fitted-eq0 : goal.returns-then-fitted-eq0
 unfolding decoded
 returns-then-fitted-eq0 c =
-    let s = c.before.before.before.before.before.before.before.before.before.before.before.before.before.before in
+    let s = (goal.at.returns-then-fitted-eq0 c).Start in
     given_back c.fit-fitted.ensures s.args.slopes.now (c.write.ensures ∙ ap (λ n. take n s.args.card.slopes) s.requires.slopes_len.0) (slopes_fit_numbered _ _ _ _) c.if-fitted-eq0.true
 
 pub returns-else-fitted-eq0 : goal.returns-else-fitted-eq0

@@ -31,7 +31,7 @@ verdict_is : (c : After-into)
 verdict_is c = c.into.ensures ∙ opened_order _ _ _ _ _ c.by_head-opened.ensures
 
 took : (c : In-Accepted) → (let a = c.args in let m = length a.slopes.now in Taken m m m (length a.curvatures.now) a.card.now)
-took c = order_takes _ _ _ _ _ (step_accepts (verdict_is c.before.before) c.in-Accepted.is)
+took c = order_takes _ _ _ _ _ (step_accepts (verdict_is (goal.at.In-Accepted c).After-into) c.in-Accepted.is)
 
 holds : (c : In-Accepted) → Holds c.by_head-opened.result.card c.args.card.now
 holds c = accepted_holds c.by_head-opened.ensures (took c).own
@@ -46,25 +46,25 @@ pub slice_bounds-anew-end : goal.slice_bounds-anew-end
 slice_bounds-anew-end c = (room c).0
 
 pub slice_bounds-anew-end-in-Accepted : goal.slice_bounds-anew-end-in-Accepted
-slice_bounds-anew-end-in-Accepted c = sym (length-take-le _ _ (room c.before).0)
+slice_bounds-anew-end-in-Accepted c = sym (length-take-le _ _ (room (goal.at.slice_bounds-anew-end-in-Accepted c).In-Accepted).0)
 
 pub slice_bounds-anew-end-in-Accepted-2 : goal.slice_bounds-anew-end-in-Accepted-2
-slice_bounds-anew-end-in-Accepted-2 c = (room c.before).1
+slice_bounds-anew-end-in-Accepted-2 c = (room (goal.at.slice_bounds-anew-end-in-Accepted-2 c).In-Accepted).1
 
 pub slice_bounds-anew-end-in-Accepted-3 : goal.slice_bounds-anew-end-in-Accepted-3
-slice_bounds-anew-end-in-Accepted-3 c = sym (length-take-le _ _ (room c.before.before).1)
+slice_bounds-anew-end-in-Accepted-3 c = sym (length-take-le _ _ (room (goal.at.slice_bounds-anew-end-in-Accepted-3 c).In-Accepted).1)
 
 pub anew-requires : goal.anew-requires
 unfolding quintic
 anew-requires c =
-    let t = c.before.before in
+    let t = (goal.at.anew-requires c).In-Accepted in
     let h = holds t in record { full = (h.full, omega (arith, (accepted_count _ (took t).own).some, knots_held h)); slopes_len = (length-take-le _ _ (room t).0, length-take-le _ _ (room t).1) }
 
 pub returns-in-Refused : goal.returns-in-Refused
-returns-in-Refused c = refits_refused _ _ _ (step_refused (verdict_is c.before.before.before) c.in-Refused.is)
+returns-in-Refused c = refits_refused _ _ _ (step_refused (verdict_is (goal.at.returns-in-Refused c).After-into) c.in-Refused.is)
 
 pub returns-in-Accepted : goal.returns-in-Accepted
 returns-in-Accepted c =
-    let t = c.before.before.before.before.before in
+    let t = (goal.at.returns-in-Accepted c).In-Accepted in
     let h = holds t in
-    refits_given _ _ _ (step_accepts (verdict_is t.before.before) t.in-Accepted.is) (opened_kind t.by_head-opened.ensures) (sym (knots_held h)) (rw h.is at c.anew.ensures)
+    refits_given _ _ _ (step_accepts (verdict_is (goal.at.In-Accepted t).After-into) t.in-Accepted.is) (opened_kind t.by_head-opened.ensures) (sym (knots_held h)) (rw h.is at c.anew.ensures)

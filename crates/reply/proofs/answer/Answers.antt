@@ -21,75 +21,75 @@ slope_places : (c : Start) → length c.args.sheet.slopes ≡ most
 slope_places c = rw c.requires.0 (sheet-roomy false c.args.text.now).slopes
 
 abbrev start : After-gathered-all → Start
-start c = c.before.before.before.before.before.before.before.before.before
+start c = (goal.at.After-gathered-all c).Start
 
 room : (c : After-gathered-all) → Roomy c.gathered-all.result
 room c = rw c.gathered-all.ensures (roomy _ _ (few (start c)))
 
 pub returns-then-sheet-ne0 : goal.returns-then-sheet-ne0
 returns-then-sheet-ne0 c =
-    let s = c.before.before.before.before.before.before.before.before.before.before in
+    let s = (goal.at.returns-then-sheet-ne0 c).Start in
     replies_wrong false (sheet_reply s.args.left s.args.right) s.args.text.now _ s.requires.0 s.args.card.now c.if-sheet-ne0.true c.complain.ensures
 
 pub returns-then-all-ne0 : goal.returns-then-all-ne0
 returns-then-all-ne0 c =
-    let g = c.before.before.before.before.before.before in
+    let g = (goal.at.returns-then-all-ne0 c).After-gathered-all in
     let s = start g in
     let z : s.args.sheet.wrong ≡ 0 = omega (arith, g.if-sheet-ne0.false) in
-    replies_log false (sheet_reply s.args.left s.args.right) s.args.text.now _ s.pre.0 s.args.card.now z g.gathered-all.ensures c.if-all-ne0.true c.refuse_knots.ensures
+    replies_log false (sheet_reply s.args.left s.args.right) s.args.text.now _ s.requires.0 s.args.card.now z g.gathered-all.ensures c.if-all-ne0.true c.refuse_knots.ensures
 
 pub slice_bounds-minutes-end : goal.slice_bounds-minutes-end
-slice_bounds-minutes-end c = minutes_hold (room c.before.before.before.before.before)
+slice_bounds-minutes-end c = minutes_hold (room (goal.at.slice_bounds-minutes-end c).After-gathered-all)
 
 pub slice_bounds-sheet_lists-end : goal.slice_bounds-sheet_lists-end
-slice_bounds-sheet_lists-end c = as_many_minutes (room c.before.before.before.before.before.before)
+slice_bounds-sheet_lists-end c = as_many_minutes (room (goal.at.slice_bounds-sheet_lists-end c).After-gathered-all)
 
 pub slice_bounds-ordinates-end : goal.slice_bounds-ordinates-end
-slice_bounds-ordinates-end c = ordinates_hold (room c.before.before.before.before.before.before)
+slice_bounds-ordinates-end c = ordinates_hold (room (goal.at.slice_bounds-ordinates-end c).After-gathered-all)
 
 pub slice_bounds-sheet_lists-end-2 : goal.slice_bounds-sheet_lists-end-2
-slice_bounds-sheet_lists-end-2 c = as_many_ordinates (room c.before.before.before.before.before.before.before)
+slice_bounds-sheet_lists-end-2 c = as_many_ordinates (room (goal.at.slice_bounds-sheet_lists-end-2 c).After-gathered-all)
 
 pub slice_bounds-given-end : goal.slice_bounds-given-end
-slice_bounds-given-end c = let g = c.before.before.before.before.before.before.before in list_holds (room g) (start g).args.sheet.slopes (slope_places (start g))
+slice_bounds-given-end c = let g = (goal.at.slice_bounds-given-end c).After-gathered-all in list_holds (room g) (start g).args.sheet.slopes (slope_places (start g))
 
 pub slice_bounds-sheet_lists-end-3 : goal.slice_bounds-sheet_lists-end-3
-slice_bounds-sheet_lists-end-3 c = let g = c.before.before.before.before.before.before.before.before in as_many_of (room g) (start g).args.sheet.slopes (slope_places (start g))
+slice_bounds-sheet_lists-end-3 c = let g = (goal.at.slice_bounds-sheet_lists-end-3 c).After-gathered-all in as_many_of (room g) (start g).args.sheet.slopes (slope_places (start g))
 
 pub slice_bounds-slopes-end : goal.slice_bounds-slopes-end
-slice_bounds-slopes-end c = (room c.before.before.before.before.before.before.before.before).few
+slice_bounds-slopes-end c = (room (goal.at.slice_bounds-slopes-end c).After-gathered-all).few
 
 pub slice_bounds-sheet_lists-end-4 : goal.slice_bounds-sheet_lists-end-4
-slice_bounds-sheet_lists-end-4 c = as_many_zeros (room c.before.before.before.before.before.before.before.before.before)
+slice_bounds-sheet_lists-end-4 c = as_many_zeros (room (goal.at.slice_bounds-sheet_lists-end-4 c).After-gathered-all)
 
 pub slice_bounds-curvatures-end : goal.slice_bounds-curvatures-end
-slice_bounds-curvatures-end c = (room c.before.before.before.before.before.before.before.before.before).few
+slice_bounds-curvatures-end c = (room (goal.at.slice_bounds-curvatures-end c).After-gathered-all).few
 
 pub slice_bounds-sheet_lists-end-5 : goal.slice_bounds-sheet_lists-end-5
-slice_bounds-sheet_lists-end-5 c = as_many_zeros (room c.before.before.before.before.before.before.before.before.before.before)
+slice_bounds-sheet_lists-end-5 c = as_many_zeros (room (goal.at.slice_bounds-sheet_lists-end-5 c).After-gathered-all)
 
 pub slice_bounds-faults-end : goal.slice_bounds-faults-end
-slice_bounds-faults-end c = faults_hold (room c.before.before.before.before.before.before.before.before.before.before)
+slice_bounds-faults-end c = faults_hold (room (goal.at.slice_bounds-faults-end c).After-gathered-all)
 
 pub slice_bounds-sheet_lists-end-6 : goal.slice_bounds-sheet_lists-end-6
-slice_bounds-sheet_lists-end-6 c = as_many_faults (room c.before.before.before.before.before.before.before.before.before.before.before)
+slice_bounds-sheet_lists-end-6 c = as_many_faults (room (goal.at.slice_bounds-sheet_lists-end-6 c).After-gathered-all)
 
 pub sheet_lists-requires : goal.sheet_lists-requires
 sheet_lists-requires c =
-    let g = c.before.before.before.before.before.before.before.before.before.before.before.before.before in
+    let g = (goal.at.sheet_lists-requires c).After-gathered-all in
     let r = room g in
     let alike = one_length r in record { ordinates_len = (alike.0, sym (as_many_of r (start g).args.sheet.slopes (slope_places (start g))) ∙ as_many_minutes r, alike.1, alike.2); minutes_len_bound = (few_minutes r, (start g).requires.1) }
 
 pub returns : goal.returns
 returns c =
-    let g = c.before.before.before.before.before.before.before.before.before.before.before.before.before.before.before.before.before.before.before.before in
+    let g = (goal.at.returns c).After-gathered-all in
     let s = start g in
     let z : s.args.sheet.wrong ≡ 0 = omega (arith, g.if-sheet-ne0.false) in
     let accepted : g.gathered-all.result.number ≡ 0 = omega (arith, c.if-all-ne0.false) in
     answers_as
     (replies_slopes s.args.sheet.sloped s.args.left s.args.right s.args.sheet.slopes _ (as_many_minutes (room g)) _ _ _ _ _ _
-    ∙ replies_knots false (sheet_reply s.args.left s.args.right) s.args.text.now _ s.pre.0 s.args.card.now z g.gathered-all.ensures accepted)
+    ∙ replies_knots false (sheet_reply s.args.left s.args.right) s.args.text.now _ s.requires.0 s.args.card.now z g.gathered-all.ensures accepted)
     c.sheet_lists.ensures
 
 pub gathered-all-requires : goal.gathered-all-requires
-gathered-all-requires c = few c.before.before.before.before.before.before.before.before
+gathered-all-requires c = few (goal.at.gathered-all-requires c).Start

@@ -5,16 +5,17 @@ use borrow.Author.Rules.{rules}
 use Rattle.reply.specs.Reply.{listing_of}
 use Rattle.reply.proofs.Replies.{answers_as, refuses, replies_refused, replies_done}
 use Rattle.reply.proofs.told.Goals as goal
+use Rattle.reply.proofs.told.Goals.{Else-number-ne0, Then-number-ne0}
 
 pub returns-then-number-ne0 : goal.returns-then-number-ne0
 returns-then-number-ne0 c =
-    let q = c.before.before.before.before in
+    let q = (goal.at.returns-then-number-ne0 c).Then-number-ne0 in
     answers_as (replies_refused _ _ _ _ _ _ _ q.if-number-ne0.true) (refuses _ c.refuse_knots.ensures _)
 
 pub returns : goal.returns
 unfolding listing_of
 returns c =
     let w = c.write-written.ensures in
-    let q = c.before.before.before.before.before.before.before.before in
+    let q = (goal.at.returns c).Else-number-ne0 in
     let z : q.args.number ≡ 0 = omega (arith, q.if-number-ne0.false) in
     answers_as (replies_done _ _ _ _ _ _ _ z) (record { said = c.list-length.ensures; status = refl; card = w.buffer; size = ap (λ r. r.bytes) w.answer })

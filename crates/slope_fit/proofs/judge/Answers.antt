@@ -13,17 +13,17 @@ use borrow.Author.Rules.{rules}
 use Rattle.slope_fit.proofs.judge.Goals as goal
 use Rattle.slope_fit.proofs.judge.Goals.{Start}
 
-room : (c : Start) → length c.args.minutes.now ≤ length c.args.t4
+room : (c : Start) → length c.args.minutes.now ≤ length c.args.worked
 room c =
-    let M : length c.args.t4 ≡ most = search rules in
+    let M : length c.args.worked ≡ most = search rules in
     omega (arith, M, c.requires.minutes_len_bound)
 
 pub slice_bounds-numbers_sound-end : goal.slice_bounds-numbers_sound-end
-slice_bounds-numbers_sound-end c = sym (length-take-le _ _ (room c.before.before.before))
+slice_bounds-numbers_sound-end c = sym (length-take-le _ _ (room (goal.at.slice_bounds-numbers_sound-end c).Start))
 
 pub numbers_sound-requires : goal.numbers_sound-requires
 numbers_sound-requires c =
-    let s = c.before.before.before in record { long = record { few = omega (arith, s.requires.minutes_len_bound); ordinates = s.requires.minutes_len_bound.1; slopes = s.requires.minutes_len_bound.2; curvatures = length-take-le _ _ (room s) }; xs_value = s.requires.minutes_value }
+    let s = (goal.at.numbers_sound-requires c).Start in record { long = record { few = omega (arith, s.requires.minutes_len_bound); ordinates = s.requires.minutes_len_bound.1; slopes = s.requires.minutes_len_bound.2; curvatures = length-take-le _ _ (room s) }; xs_value = s.requires.minutes_value }
 
 pub returns : goal.returns
 returns c =

@@ -6,6 +6,7 @@ use Rattle.fit.specs.Fit.{tested}
 use Rattle.fit.proofs.Fitting.{fits_along, fits_refused, fits_given}
 use borrow.Author.Rules.{rules}
 use Rattle.slope_fit.proofs.settle.Goals as goal
+use Rattle.slope_fit.proofs.settle.Goals.{Start}
 
 pub write-requires : goal.write-requires
 write-requires c = search rules
@@ -13,7 +14,7 @@ write-requires c = search rules
 pub returns-in-Accepted : goal.returns-in-Accepted
 unfolding tested
 returns-in-Accepted c =
-    let s = c.before.before.before.before.before.before.before in
+    let s = (goal.at.returns-in-Accepted c).Start in
     fits_along
     (step_passes _ c.judge-sound.ensures c.in-Accepted.is refl)
     (fits_given refl (c.write.ensures ∙ ap (λ n. take n s.args.worked) s.requires.alike.curvatures))

@@ -10,13 +10,14 @@ use Rattle.fit.proofs.Fitting.{fits_along, fits_refused}
 use Rattle.slope_fit.proofs.Worked.{refused_8, worked_out}
 use borrow.Author.Rules.{rules}
 use Rattle.slope_fit.proofs.solve.Goals as goal
+use Rattle.slope_fit.proofs.solve.Goals.{Start}
 
 pub pairs_of-solved-requires : goal.pairs_of-solved-requires
-pairs_of-solved-requires c = let s = c.before in ((s.requires.alike.many, s.requires.alike.ordinates, s.requires.alike.slopes), (stood s.requires.minutes_value).rising)
+pairs_of-solved-requires c = let s = (goal.at.pairs_of-solved-requires c).Start in ((s.requires.alike.many, s.requires.alike.ordinates, s.requires.alike.slopes), (stood s.requires.minutes_value).rising)
 
 pub scale-numbers-requires : goal.scale-numbers-requires
 scale-numbers-requires c =
-    let s = c.before.before.before.before.before in
+    let s = (goal.at.scale-numbers-requires c).Start in
     let p = c.pairs_of-solved in
     (s.requires.alike.many, λ k h. ap (λ (q : Solved). both_finite (get_or q.pairs k no_pair)) p.ensures ∙ pairs-finite _ _ _ k h)
 

@@ -10,7 +10,7 @@ use Rattle.slope_fit.specs.SlopesFit.{standing}
 use Rattle.slope_fit.proofs.Order.{stood_first}
 use borrow.Author.Rules.{rules}
 use Rattle.slope_fit.proofs.stand_and_solve.Goals as goal
-use Rattle.slope_fit.proofs.stand_and_solve.Goals.{After-first-stood}
+use Rattle.slope_fit.proofs.stand_and_solve.Goals.{After-first-stood, Start}
 
 stood_is : (c : After-first-stood) → verdict_of c.first-stood.result ≡ standing c.args.minutes.now c.args.ordinates.now c.args.slopes.now
 unfolding standing stands sloped
@@ -18,10 +18,10 @@ stood_is c = c.first-stood.ensures ∙ ap₂ (λ v w. v then w) c.stand-knots_st
 
 pub solve-requires : goal.solve-requires
 solve-requires c = let s =
-    c.before.before.before.before.before.before.before in record { alike = s.requires; minutes_value = stood_first _ _ _ (step_accepts (stood_is c.before.before.before) c.in-Accepted.is) }
+    (goal.at.solve-requires c).Start in record { alike = s.requires; minutes_value = stood_first _ _ _ (step_accepts (stood_is (goal.at.solve-requires c).After-first-stood) c.in-Accepted.is) }
 
 pub returns-in-Accepted : goal.returns-in-Accepted
-returns-in-Accepted c = fits_along (step_passes _ (stood_is c.before.before.before.before.before) c.in-Accepted.is refl) c.solve.ensures
+returns-in-Accepted c = fits_along (step_passes _ (stood_is (goal.at.returns-in-Accepted c).After-first-stood) c.in-Accepted.is refl) c.solve.ensures
 
 pub returns-in-Refused : goal.returns-in-Refused
-returns-in-Refused c = fits_along (step_refuses _ (stood_is c.before.before.before) c.in-Refused.is) fits_refused
+returns-in-Refused c = fits_along (step_refuses _ (stood_is (goal.at.returns-in-Refused c).After-first-stood) c.in-Refused.is) fits_refused

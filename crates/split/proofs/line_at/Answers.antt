@@ -26,19 +26,19 @@ pub overflow_add-end : goal.overflow_add-end
 overflow_add-end c = omega (arith, within c)
 
 pub from-requires-then-end-text : goal.from-requires-then-end-text
-from-requires-then-end-text c = within c.before
+from-requires-then-end-text c = within (goal.at.from-requires-then-end-text c).After-until
 
 pub returns-then-end-text : goal.returns-then-end-text
 returns-then-end-text c =
-    let u = c.before.before in
+    let u = (goal.at.returns-then-end-text c).After-until in
     c.from-then-end-text.ensures ∙ rw (found u) (seeking_none u.loop-i.invariant (omega arith) (rw (found u) at c.if-end-text.true))
 
 pub overflow_add-at : goal.overflow_add-at
-overflow_add-at c = omega (arith, within c.before)
+overflow_add-at c = omega (arith, within (goal.at.overflow_add-at c).After-until)
 
 pub loop-i-preserved : goal.loop-i-preserved
 loop-i-preserved c =
-    let u = c.before in
+    let u = (goal.at.loop-i-preserved c).After-until in
     let l = u.loop-i in
     let less : l.at + length u.until.result.now < length u.args.text.now = omega (arith, within u) in
     rw (found u) (seeking_more l.invariant (omega arith) (rw (found u) at less))

@@ -7,7 +7,4 @@ use Rattle.split.proofs.Stops.{stop_le}
 use Rattle.split.proofs.until.Goals as goal
 
 pub slice_bounds-result-end : goal.slice_bounds-result-end
-slice_bounds-result-end c = sym (length-take-le _ _ (rw c.stop.ensures (stop_le _ _)))
-
-pub returns : goal.returns
-returns c = ap (λ n. take n c.before.before.before.args.text.now) c.stop.ensures
+slice_bounds-result-end c = sym (length-take-le _ _ (rw c.stop-end.ensures (stop_le _ _)))

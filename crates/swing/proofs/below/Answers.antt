@@ -10,6 +10,7 @@ use borrow.Author.Rules.{rules}
 use Rattle.whole.proofs.Widened.{widened_fits, widened_is}
 use Rattle.swing.specs.Swing.{surplus, below}
 use Rattle.swing.proofs.below.Goals as goal
+use Rattle.swing.proofs.below.Goals.{Start}
 
 pub overflow_cast-y : goal.overflow_cast-y
 overflow_cast-y c = widened_fits w32 c.ranges.y (omega arith)
@@ -20,7 +21,7 @@ overflow_cast-z c = widened_fits w32 c.ranges.z (omega arith)
 pub returns : goal.returns
 unfolding below
 returns c =
-    let d = c.before.before.before in
+    let d = (goal.at.returns c).Start in
     let v = to_z-of_z d.ranges.value in
     c.least.ensures
     ∙ ap₂ min

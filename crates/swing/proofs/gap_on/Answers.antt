@@ -25,24 +25,24 @@ pub curve_at-curve-requires : goal.curve_at-curve-requires
 curve_at-curve-requires c = c.requires
 
 pub overflow_sub-h : goal.overflow_sub-h
-overflow_sub-h c = let d = c.before.before.before.before in omega (arith, wide d.requires.checked d.args.j d.requires.j_in_bounds)
+overflow_sub-h c = let d = (goal.at.overflow_sub-h c).Start in omega (arith, wide d.requires.checked d.args.j d.requires.j_in_bounds)
 
 pub bounds-ys-j : goal.bounds-ys-j
-bounds-ys-j c = let d = c.before.before.before.before in omega (arith, d.requires.j_in_bounds, d.requires.checked.long.ordinates)
+bounds-ys-j c = let d = (goal.at.bounds-ys-j c).Start in omega (arith, d.requires.j_in_bounds, d.requires.checked.long.ordinates)
 
 pub bounds-ys-j-2 : goal.bounds-ys-j-2
-bounds-ys-j-2 c = let d = c.before.before.before.before.before in omega (arith, d.requires.j_in_bounds, d.requires.checked.long.ordinates)
+bounds-ys-j-2 c = let d = (goal.at.bounds-ys-j-2 c).Start in omega (arith, d.requires.j_in_bounds, d.requires.checked.long.ordinates)
 
 pub loop-t-init : goal.loop-t-init
 loop-t-init c =
-    let d = c.before.before.before.before.before.before in
+    let d = (goal.at.loop-t-init c).Start in
     (omega (arith, wide d.requires.checked d.args.j d.requires.j_in_bounds), low_start d.requires.checked d.args.j d.requires.j_in_bounds, high_start d.requires.checked d.args.j d.requires.j_in_bounds)
 
 -- ---- a minute
 
 module _ (c : In-loop-t) where
   abbrev d : Start
-  d = c.before.before.before.before.before.before.before.before
+  d = (goal.at.In-loop-t c).Start
 
   abbrev xs : List ℕ
   xs = d.args.xs.now
@@ -60,7 +60,7 @@ module _ (c : In-loop-t) where
   small = omega (arith, more, (c.shared_slice_known-2-1.given (j + 1)).fits)
 
   there : InPlace xs j (get_or xs j 0 + (t + 1))
-  there = place d.pre.0 j d.pre.1 (t + 1) more
+  there = place d.requires.checked j d.requires.j_in_bounds (t + 1) more
 
   -- the minutes from the left knot, as the machine has them
   t_is : to_z w64 (t + 1) ≡ pos (get_or xs j 0 + (t + 1) - get_or xs j 0)
@@ -71,7 +71,7 @@ module _ (c : In-loop-t) where
 
 pub overflow_add-t : goal.overflow_add-t
 overflow_add-t c =
-    let d = c.before.before.before.before.before.before.before in
+    let d = (goal.at.overflow_add-t c).Start in
     omega (arith, c.loop-t.invariant.0, (c.shared_slice_known-2-1.given (d.args.j + 1)).fits)
 
 pub overflow_add-t-in-loop-t : goal.overflow_add-t-in-loop-t
@@ -81,26 +81,26 @@ pub overflow_cast-t : goal.overflow_cast-t
 overflow_cast-t c = record { sfits = omega (arith, small c) }
 
 pub value_at-value-requires : goal.value_at-value-requires
-value_at-value-requires c = (curve_laid (d c).requires.0 (j c) (curve_is c) (there c), minute_laid (d c).requires.0 (j c) (curve_is c) (there c) (t_is c))
+value_at-value-requires c = (curve_laid (d c).requires.checked (j c) (curve_is c) (there c), minute_laid (d c).requires.checked (j c) (curve_is c) (there c) (t_is c))
 
 pub loop-t-preserved : goal.loop-t-preserved
 loop-t-preserved c =
-    let l = c.before.before.before.before.before in
+    let l = (goal.at.loop-t-preserved c).In-loop-t in
     let s = d l in
     let y-is = to_z-of_z {w = w16} (record { sfits = l.y-1.given }) in
     let z-is = to_z-of_z {w = w16} (record { sfits = l.z-1.given }) in
     let v = c.value_at-value in
-    let v-is = to_z-of_z {w = w32} {z = v.result} (record { sfits = v.type-inv }) ∙ v.ensures in
-    let e = curve_reads s.pre.0 (j l) (curve_is l) (there l) (t_is l) refl in (
+    let v-is = to_z-of_z {w = w32} {z = v.result} (record { sfits = v.type_inv }) ∙ v.ensures in
+    let e = curve_reads s.requires.checked (j l) (curve_is l) (there l) (t_is l) refl in (
       more l,
-      low_on s.pre.0 (j l) s.pre.1 (t l) (more l) e y-is z-is v-is l.loop-t.invariant.1 c.below.ensures c.or-low.ensures,
-      high_on s.pre.0 (j l) s.pre.1 (t l) (more l) e y-is z-is v-is l.loop-t.invariant.2 c.above.ensures c.or-high.ensures,
+      low_on s.requires.checked (j l) s.requires.j_in_bounds (t l) (more l) e y-is z-is v-is l.loop-t.invariant.1 c.below.ensures c.or-low.ensures,
+      high_on s.requires.checked (j l) s.requires.j_in_bounds (t l) (more l) e y-is z-is v-is l.loop-t.invariant.2 c.above.ensures c.or-high.ensures,
     )
 
 -- what was reached lies before the right knot
 module _ (c : After-loop-t) where
   abbrev s : Start
-  s = c.before.before.before.before.before.before.before.before
+  s = (goal.at.After-loop-t c).Start
 
   abbrev card : Card
   card = lent s.args.xs.now s.args.ys.now s.args.ms.now s.args.cs.now 0 0
@@ -117,12 +117,12 @@ module _ (c : After-loop-t) where
 
 pub returns : goal.returns
 returns c =
-    let d = c.before.before.before.before.before.before.before.before.before.before in
+    let d = (goal.at.returns c).Start in
     let l = c.loop-t in
     gap_reached d.requires.checked d.args.j d.requires.j_in_bounds l.t (omega (arith, c.loop-t-test.false)) l.low l.high l.invariant.1 l.invariant.2
 
 pub overflow_add-result : goal.overflow_add-result
-overflow_add-result c = omega (arith, low_inside c.before)
+overflow_add-result c = omega (arith, low_inside (goal.at.overflow_add-result c).After-loop-t)
 
 pub overflow_add-result-2 : goal.overflow_add-result-2
-overflow_add-result-2 c = omega (arith, high_inside c.before.before)
+overflow_add-result-2 c = omega (arith, high_inside (goal.at.overflow_add-result-2 c).After-loop-t)

@@ -24,26 +24,26 @@ args c = held c.args.a ∷ held c.args.b ∷ []
 
 pub returns-then-a-b : goal.returns-then-a-b
 returns-then-a-b c =
-    let d = c.before in
+    let d = (goal.at.returns-then-a-b c).Start in
     let h : d.args.a ≤ℤ d.args.b = le_z_true (told w32 (args d) (a ∷ b ∷ []) (λ a b. le_z a b ≡ true) (d.ranges.a, (d.ranges.b, tt)) c.if-a-b.true) in
     sym (surplus_none h)
 
 module _ (c : Else-a-b) where
   abbrev d : Start
-  d = c.before
+  d = (goal.at.Else-a-b c).Start
 
   less : d.args.b <ℤ d.args.a
-  less = le_z_false (told w32 (args d) (a ∷ b ∷ []) (λ a b. le_z a b ≡ false) (d.fits.a, (d.fits.b, tt)) c.if-a-b.false)
+  less = le_z_false (told w32 (args d) (a ∷ b ∷ []) (λ a b. le_z a b ≡ false) (d.ranges.a, (d.ranges.b, tt)) c.if-a-b.false)
 
   small : nat_abs (d.args.a -ℤ d.args.b) < 2 ^ 32
-  small = omega (arith, apart less d.fits.a.sfits d.fits.b.sfits)
+  small = omega (arith, apart less d.ranges.a.sfits d.ranges.b.sfits)
 
   fits : SFits w64 (d.args.a -ℤ d.args.b)
   fits = abs_fits (omega (arith, small))
 
   -- the difference, as the machine has it
   wide : to_z w64 (of_z w64 (to_z w32 (of_z w32 d.args.a))) -ℤ to_z w64 (of_z w64 (to_z w32 (of_z w32 d.args.b))) ≡ d.args.a -ℤ d.args.b
-  wide = ap₂ ◌-ℤ◌ (widened_is w64 d.fits.a (omega arith)) (widened_is w64 d.fits.b (omega arith))
+  wide = ap₂ ◌-ℤ◌ (widened_is w64 d.ranges.a (omega arith)) (widened_is w64 d.ranges.b (omega arith))
 
   kept : to_z w64 (of_z w64 (to_z w64 (of_z w64 (to_z w32 (of_z w32 d.args.a))) -ℤ to_z w64 (of_z w64 (to_z w32 (of_z w32 d.args.b))))) ≡ d.args.a -ℤ d.args.b
   kept = ap (λ (z : ℤ). to_z w64 (of_z w64 z)) wide ∙ to_z-of_z fits

@@ -25,7 +25,7 @@ widest-widest-requires c = accepted_readable c.by_head-opened.ensures (accepts c
 
 pub overflow_cast-result : goal.overflow_cast-result
 overflow_cast-result c =
-    let e = c.before.before.before in
+    let e = (goal.at.overflow_cast-result c).In-Accepted in
     let d = e.by_head-opened.result.card in
     let f = (holds e).full in
     omega (arith, knot_inside (decoded d) c.widest-widest.ensures, knots_decoded d f, f.few)
@@ -35,5 +35,5 @@ returns-in-Refused c = swung_refused _ (step_refused c.by_head-opened.ensures.ju
 
 pub returns-in-Accepted : goal.returns-in-Accepted
 returns-in-Accepted c =
-    let e = c.before.before.before.before in
+    let e = (goal.at.returns-in-Accepted c).In-Accepted in
     swung_given (accepts e) (holds e).is c.widest-widest.ensures c.first_minute.ensures

@@ -10,6 +10,7 @@ use Rattle.decode.specs.Decoded.{decoded}
 use borrow.Author.Rules.{rules}
 use Rattle.swing.specs.Swing.{below_at, above_at, gap_swing, widest, widest_of}
 use Rattle.swing.proofs.widest.Goals as goal
+use Rattle.swing.proofs.widest.Goals.{Start}
 
 pub slice_bounds-widest_on-end : goal.slice_bounds-widest_on-end
 slice_bounds-widest_on-end c = sym (length-take-le _ _ c.requires.full.minutes)
@@ -26,7 +27,7 @@ slice_bounds-widest_on-end-4 c = sym (length-take-le _ _ c.requires.full.curvatu
 pub widest_on-requires : goal.widest_on-requires
 unfolding decoded knots quintic
 widest_on-requires c =
-    let s = c.before.before.before.before.before.before.before.before in record { checked = s.requires.checked; in_bounds = omega (arith, s.requires.some) }
+    let s = (goal.at.widest_on-requires c).Start in record { checked = s.requires.checked; in_bounds = omega (arith, s.requires.some) }
 
 pub returns : goal.returns
 unfolding decoded widest_of widest gap_swing below_at above_at reads_at spell knot knots

@@ -19,8 +19,8 @@ overflow_add-left c = omega (arith, last_fits c)
 
 pub returns-then-left-places : goal.returns-then-left-places
 unfolding minutes_left count
-returns-then-left-places c = (omega arith, omega (arith, last_fits c.before))
+returns-then-left-places c = (omega arith, omega (arith, last_fits (goal.at.returns-then-left-places c).After-shared_slice_known-1))
 
 pub returns : goal.returns
 unfolding minutes_left count
-returns c = (omega arith, omega (arith, last_fits c.before))
+returns c = (omega arith, omega (arith, last_fits (goal.at.returns c).After-shared_slice_known-1))

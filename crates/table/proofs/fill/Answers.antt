@@ -22,12 +22,12 @@ use Rattle.lists.proofs.ByGap.{curve_laid, minute_laid, curve_reads, in_place}
 use Rattle.table.specs.Table.{Stops}
 use Rattle.table.proofs.ByGap.{FilledOn, on_none, on_more, alike, not_past, still, on_to}
 use Rattle.table.proofs.fill.Goals as goal
-use Rattle.table.proofs.fill.Goals.{After-find-gap, After-loop-i-2, After-struct_told-in-loop-i-2-2-1, In-loop-i, In-loop-i-2, Start}
+use Rattle.table.proofs.fill.Goals.{After-find-gap, After-loop-i-2, After-stop-stop, After-struct_told-in-loop-i-2-2-1, In-loop-i, In-loop-i-2, Start}
 
 -- ---- the gaps
 
 abbrev start : In-loop-i → Start
-start c = c.before.before.before.before
+start c = (goal.at.In-loop-i c).Start
 
 pub find-gap-requires : goal.find-gap-requires
 find-gap-requires c = (omega (arith, c.requires.in_bounds.0.0), c.requires.checked.long.few)
@@ -35,7 +35,7 @@ find-gap-requires c = (omega (arith, c.requires.in_bounds.0.0), c.requires.check
 -- the gap that the looks leave is the first minute's
 first_gap : (c : After-find-gap) → (let a = c.args in IsGap a.xs.now a.from c.find-gap.result.first)
 first_gap c =
-    let d = c.before.before in
+    let d = (goal.at.After-find-gap c).Start in
     let xs = d.args.xs.now in
     let p = d.requires.in_bounds.0 in
     subst (λ j. IsGap xs d.args.from j) (sym (ap (λ (l : Left). l.first) c.find-gap.ensures ∙ found_gap xs d.args.from p.0 (minutes_rise d.requires.checked) p.1))
@@ -48,25 +48,25 @@ gap_here : (c : In-loop-i) → (let a = (start c).args in IsGap a.xs.now (a.from
 gap_here c = c.loop-i.invariant.1 (omega arith)
 
 pub curve_at-curve-requires : goal.curve_at-curve-requires
-curve_at-curve-requires c = ((start c).requires.0, (gap_here c).inside)
+curve_at-curve-requires c = ((start c).requires.checked, (gap_here c).inside)
 
 pub offset_bounds-xs-j : goal.offset_bounds-xs-j
-offset_bounds-xs-j c = omega (arith, (gap_here c.before).inside)
+offset_bounds-xs-j c = omega (arith, (gap_here (goal.at.offset_bounds-xs-j c).In-loop-i).inside)
 
 pub bounds-xs-j : goal.bounds-xs-j
-bounds-xs-j c = omega (arith, (gap_here c.before.before).inside)
+bounds-xs-j c = omega (arith, (gap_here (goal.at.bounds-xs-j c).In-loop-i).inside)
 
 pub stop-stop-requires : goal.stop-stop-requires
-stop-stop-requires c = let g = gap_here c.before.before in (g.inside, λ l. omega (arith, g.before l))
+stop-stop-requires c = let g = gap_here (goal.at.stop-stop-requires c).In-loop-i in (g.inside, λ l. omega (arith, g.before l))
 
 pub loop-i-2-init : goal.loop-i-2-init
-loop-i-2-init c = (omega arith, not_past c.stop-stop.ensures (gap_here c.before.before.before) (omega arith), on_none, on_none, on_none)
+loop-i-2-init c = (omega arith, not_past c.stop-stop.ensures (gap_here (goal.at.loop-i-2-init c).In-loop-i) (omega arith), on_none, on_none, on_none)
 
 -- ---- a minute of a gap
 
 module _ (c : In-loop-i-2) where
   abbrev outer : In-loop-i
-  outer = c.before.before.before.before.before
+  outer = (goal.at.In-loop-i-2 c).In-loop-i
 
   abbrev d : Start
   d = start outer
@@ -87,16 +87,16 @@ module _ (c : In-loop-i-2) where
   here = still stops (gap_here outer) c.loop-i-2.invariant.0 (omega arith)
 
   first : get_or xs 0 0 ≤ minute
-  first = omega (arith, d.pre.1.0.1)
+  first = omega (arith, d.requires.in_bounds.0.1)
 
   last : minute ≤ get_or xs (length xs - 1) 0
-  last = omega (arith, d.pre.1.0.2, stops.within)
+  last = omega (arith, d.requires.in_bounds.0.2, stops.within)
 
   small : get_or xs (length xs - 1) 0 < 2 ^ 16
   small = (outer.before.before.before.shared-slice-known.given _).fits
 
   place : InPlace xs j minute
-  place = in_place d.pre.0 j here last
+  place = in_place d.requires.checked j here last
 
   -- the minutes from the left knot, as the machine has them
   t_is : to_z w64 (minute - get_or xs j 0) ≡ pos (minute - get_or xs j 0)
@@ -106,17 +106,17 @@ module _ (c : In-loop-i-2) where
   room_values : c.loop-i-2.i < length c.loop-i-2.values
   room_values =
       let e : length c.loop-i-2.values ≡ length outer.before.loop.values = c.loop-i-2.invariant.2.same in
-      omega (arith, d.pre.1.1.0, stops.within, outer.before.loop.inv.2.same, e)
+      omega (arith, d.requires.in_bounds.1.0, stops.within, outer.before.loop.inv.2.same, e)
 
   room_slopes : c.loop-i-2.i < length c.loop-i-2.slopes
   room_slopes =
       let e : length c.loop-i-2.slopes ≡ length outer.before.loop.slopes = c.loop-i-2.invariant.3.same in
-      omega (arith, d.pre.1.1.1, stops.within, outer.before.loop.inv.3.same, e)
+      omega (arith, d.requires.in_bounds.1.1, stops.within, outer.before.loop.inv.3.same, e)
 
   room_curvatures : c.loop-i-2.i < length c.loop-i-2.curvatures
   room_curvatures =
       let e : length c.loop-i-2.curvatures ≡ length outer.before.loop.curvatures = c.loop-i-2.invariant.4.same in
-      omega (arith, d.pre.1.1.2, stops.within, outer.before.loop.inv.4.same, e)
+      omega (arith, d.requires.in_bounds.1.2, stops.within, outer.before.loop.inv.4.same, e)
 
 -- the curve that was laid is the gap's
 outer_curve : (c : In-loop-i-2) → (let a = (d c).args in c.curve_at-curve.result ≡ curve_of a.xs.now a.ys.now a.ms.now a.cs.now (j c))
@@ -136,27 +136,27 @@ overflow_cast-from c = record { sfits = omega (arith, small c, last c) }
 
 pub at-r-requires : goal.at-r-requires
 at-r-requires c =
-    let k = (d c).requires.0 in
+    let k = (d c).requires.checked in
     let e = outer_curve c in
     (curve_laid k (j c) e (place c), minute_laid k (j c) e (place c) (t_is c))
 
 -- ---- the lists
 
 abbrev inner : After-struct_told-in-loop-i-2-2-1 → In-loop-i-2
-inner c = c.before.before.before.before
+inner c = (goal.at.After-struct_told-in-loop-i-2-2-1 c).In-loop-i-2
 
 low : (c : After-struct_told-in-loop-i-2-2-1) → (inner c).before.loop2.i < 2 ^ 16
 low c = omega (arith, small (inner c), last (inner c))
 
 abbrev passed : After-loop-i-2 → In-loop-i
-passed c = c.before.before.before.before.before
+passed c = (goal.at.After-loop-i-2 c).In-loop-i
 
 pub loop-i-2-preserved : goal.loop-i-2-preserved
 loop-i-2-preserved c =
     let l = inner c in
     let v = l.before.loop2.inv in
     let r = c.at-r.result in
-    let k = (d l).pre.0 in
+    let k = (d l).requires.checked in
     let e = alike k (j l) (here l) (first l) (last l) (curve_reads k (j l) (outer_curve l) (place l) (t_is l) c.at-r.ensures) in (
       omega arith,
       omega arith,
@@ -167,13 +167,13 @@ loop-i-2-preserved c =
 
 pub loop-i-preserved : goal.loop-i-preserved
 loop-i-preserved c =
-    let s = c.before.before in
+    let s = (goal.at.loop-i-preserved c).After-stop-stop in
     let o = passed c in
     let v = o.before.loop.inv in
     let w = c.loop-i-2.invariant in
     let e : c.loop-i-2.i ≡ s.stop-stop.result = omega arith in (
       omega (arith, s.stop-stop.ensures.within),
-      (λ l. subst (λ i. IsGap (start o).args.xs.now ((start o).args.from + i) (o.before.loop.j + 1)) (sym e) (on_to (minutes_rise (start o).pre.0) s.stop-stop.ensures (omega arith))),
+      (λ l. subst (λ i. IsGap (start o).args.xs.now ((start o).args.from + i) (o.before.loop.j + 1)) (sym e) (on_to (minutes_rise (start o).requires.checked) s.stop-stop.ensures (omega arith))),
       w.2.more _ v.2,
       w.3.more _ v.3,
       w.4.more _ v.4,

@@ -25,7 +25,7 @@ few c = c.requires.readable.some
 
 pub count-count-requires : goal.count-count-requires
 unfolding decoded knots
-count-count-requires c = let s = c.before.before.before.before.before in (omega (arith, few s), (in_card _ _ s.requires.from_value.0).1)
+count-count-requires c = let s = (goal.at.count-count-requires c).Start in (omega (arith, few s), (in_card _ _ s.requires.from_value.0).1)
 
 pub slice_bounds-fill-end : goal.slice_bounds-fill-end
 slice_bounds-fill-end c = sym (length-take-le _ _ c.requires.readable.full.minutes)
@@ -42,7 +42,7 @@ slice_bounds-fill-end-4 c = sym (length-take-le _ _ c.requires.readable.full.cur
 pub fill-requires : goal.fill-requires
 unfolding decoded knots count minutes_left
 fill-requires c =
-    let s = c.before.before.before.before.before.before.before.before.before.before.before.before.before in
+    let s = (goal.at.fill-requires c).Start in
     let n = c.count-count.ensures in
     let inside = in_card _ _ s.requires.from_value.0 in record { checked = s.requires.readable.checked; in_bounds = ((omega (arith, few s), inside.0, omega (arith, n.0, inside.1)), (omega (arith, n.0), omega (arith, n.0), omega (arith, n.0))); count_in_bounds =  }
 

@@ -27,24 +27,24 @@ judged-requires c e =
     let o = c.by_head-opened.ensures in
     accepted_readable o (sym o.judged ∙ e)
 
-accepts : (c : In-Accepted) → (let j = c.before.before in Taken (lent j) (bytes j) j.args.from)
-accepts c = let j = c.before.before in took (lent j) (bytes j) _ (step_accepts (verdict_is j) c.in-Accepted.is)
+accepts : (c : In-Accepted) → (let j = (goal.at.In-Accepted c).After-judged in Taken (lent j) (bytes j) j.args.from)
+accepts c = let j = (goal.at.In-Accepted c).After-judged in took (lent j) (bytes j) _ (step_accepts (verdict_is j) c.in-Accepted.is)
 
-holds : (c : In-Accepted) → (let j = c.before.before in Holds j.by_head-opened.result.card (bytes j))
+holds : (c : In-Accepted) → (let j = (goal.at.In-Accepted c).After-judged in Holds j.by_head-opened.result.card (bytes j))
 holds c = accepted_holds c.by_head-opened.ensures (accepts c).own
 
 pub give-count-requires : goal.give-count-requires
 give-count-requires c =
-    let e = c.before.before.before in
+    let e = (goal.at.give-count-requires c).In-Accepted in
     let t = accepts e in
     (accepted_readable e.by_head-opened.ensures t.own, (rw (holds e).is t.inside, (t.slopes, t.curvatures)))
 
 pub returns-in-Refused : goal.returns-in-Refused
-returns-in-Refused c = let j = c.before.before.before in tables_refused (lent j) (bytes j) _ (step_refused (verdict_is j) c.in-Refused.is)
+returns-in-Refused c = let j = (goal.at.returns-in-Refused c).After-judged in tables_refused (lent j) (bytes j) _ (step_refused (verdict_is j) c.in-Refused.is)
 
 pub returns-in-Accepted : goal.returns-in-Accepted
 returns-in-Accepted c =
-    let e = c.before.before.before.before.before.before.before in
-    let j = e.before.before in
+    let e = (goal.at.returns-in-Accepted c).In-Accepted in
+    let j = (goal.at.In-Accepted e).After-judged in
     let g = c.give-count.ensures in
     tables_given (lent j) (bytes j) _ (step_accepts (verdict_is j) e.in-Accepted.is) (holds e) g.0.0 g.1

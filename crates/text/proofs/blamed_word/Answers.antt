@@ -5,7 +5,7 @@ use Rattle.split.specs.Parts.{past}
 use Rattle.split.specs.declared.Mark.TheVariants.{Blank, Word}
 use Rattle.text.proofs.Blames.{blames_none, blames_one, blames_two, blames_three, blames_four}
 use Rattle.text.proofs.blamed_word.Goals as goal
-use Rattle.text.proofs.blamed_word.Goals.{After-past-fourth, After-past-second, After-past-third}
+use Rattle.text.proofs.blamed_word.Goals.{After-past-fourth, After-past-second, After-past-third, After-until-minute, After-until-word, Else-first-eq0, Else-fourth-gt0, Else-second-eq0, Else-third-eq0, Then-fourth-gt0, Then-third-eq0}
 
 second : (c : After-past-second) → c.past-second.result.now ≡ past Word (past Blank c.past-first.result.now)
 second c = c.past-second.ensures ∙ ap (past Word) c.past.ensures
@@ -21,35 +21,35 @@ returns-then-first-eq0 c = blames_none _ c.past-first.ensures c.if-first-eq0.tru
 
 pub returns-then-second-eq0 : goal.returns-then-second-eq0
 returns-then-second-eq0 c =
-    let u = c.before.before.before in
-    let q = u.before in
-    u.until-minute.ensures ∙ blames_one _ q.past-first.ensures q.if-first-eq0.false (second c.before) c.if-second-eq0.true
+    let u = (goal.at.returns-then-second-eq0 c).After-until-minute in
+    let q = (goal.at.After-until-minute u).Else-first-eq0 in
+    u.until-minute.ensures ∙ blames_one _ q.past-first.ensures q.if-first-eq0.false (second (goal.at.returns-then-second-eq0 c).After-past-second) c.if-second-eq0.true
 
 pub returns-then-third-eq0 : goal.returns-then-third-eq0
 returns-then-third-eq0 c =
-    let e = c.before in
-    let v = e.before.before.before in
-    let r = v.before in
-    let u = r.before.before.before in
-    let q = u.before in
+    let e = (goal.at.returns-then-third-eq0 c).Then-third-eq0 in
+    let v = (goal.at.Then-third-eq0 e).After-until-word in
+    let r = (goal.at.After-until-word v).Else-second-eq0 in
+    let u = (goal.at.Else-second-eq0 r).After-until-minute in
+    let q = (goal.at.After-until-minute u).Else-first-eq0 in
     c.blamed_two.ensures ∙ rw (u.until-minute.ensures, v.until-word.ensures)
-    (blames_two _ q.past-first.ensures q.if-first-eq0.false (second r.before) r.if-second-eq0.false (third e.before) e.if-third-eq0.true)
+    (blames_two _ q.past-first.ensures q.if-first-eq0.false (second (goal.at.Else-second-eq0 r).After-past-second) r.if-second-eq0.false (third (goal.at.Then-third-eq0 e).After-past-third) e.if-third-eq0.true)
 
 pub returns-then-fourth-gt0 : goal.returns-then-fourth-gt0
 returns-then-fourth-gt0 c =
-    let d = c.before in
-    let e = d.before.before.before in
-    let r = e.before.before.before.before in
-    let q = r.before.before.before.before in
-    c.until.ensures ∙ blames_four _ q.past-first.ensures q.if-first-eq0.false (second r.before) r.if-second-eq0.false (third e.before) e.if-third-eq0.false (fourth d.before) d.if-fourth-gt0.true
+    let d = (goal.at.returns-then-fourth-gt0 c).Then-fourth-gt0 in
+    let e = (goal.at.Then-fourth-gt0 d).Else-third-eq0 in
+    let r = (goal.at.Else-third-eq0 e).Else-second-eq0 in
+    let q = (goal.at.Else-second-eq0 r).Else-first-eq0 in
+    c.until.ensures ∙ blames_four _ q.past-first.ensures q.if-first-eq0.false (second (goal.at.Else-second-eq0 r).After-past-second) r.if-second-eq0.false (third (goal.at.Else-third-eq0 e).After-past-third) e.if-third-eq0.false (fourth (goal.at.Then-fourth-gt0 d).After-past-fourth) d.if-fourth-gt0.true
 
 pub returns : goal.returns
 returns c =
-    let d = c.before.before in
-    let e = d.before.before.before in
-    let v = e.before.before.before in
-    let r = v.before in
-    let u = r.before.before.before in
-    let q = u.before in
+    let d = (goal.at.returns c).Else-fourth-gt0 in
+    let e = (goal.at.Else-fourth-gt0 d).Else-third-eq0 in
+    let v = (goal.at.Else-third-eq0 e).After-until-word in
+    let r = (goal.at.After-until-word v).Else-second-eq0 in
+    let u = (goal.at.Else-second-eq0 r).After-until-minute in
+    let q = (goal.at.After-until-minute u).Else-first-eq0 in
     c.blamed_three.ensures ∙ rw (u.until-minute.ensures, v.until-word.ensures, c.until-2.ensures)
-    (blames_three _ q.past-first.ensures q.if-first-eq0.false (second r.before) r.if-second-eq0.false (third e.before) e.if-third-eq0.false (fourth d.before) d.if-fourth-gt0.false)
+    (blames_three _ q.past-first.ensures q.if-first-eq0.false (second (goal.at.Else-second-eq0 r).After-past-second) r.if-second-eq0.false (third (goal.at.Else-third-eq0 e).After-past-third) e.if-third-eq0.false (fourth (goal.at.Else-fourth-gt0 d).After-past-fourth) d.if-fourth-gt0.false)

@@ -14,7 +14,7 @@ use Rattle.units.proofs.units_of.Goals.{Start}
 
 -- the format holds what an `f64` is
 fits_format : (c : Start) → T (fits binary64 c.args.u)
-fits_format c = subst T (sym c.well-formed.0.1) tt
+fits_format c = subst T (sym c.well_formed.0.1) tt
 
 pub float_to_bits-bits : goal.float_to_bits-bits
 float_to_bits-bits c = no_nan c.args.u c.requires

@@ -17,7 +17,7 @@ use Rattle.curve.specs.Kind.{quintic}
 use Rattle.cubic.specs.Cubic.{a, scale, δ², unknown, largest}
 use Rattle.unknowns.proofs.Ranges.{most_unknown, entered, entry_in, difference_in, unknown_in}
 use Rattle.unknowns.proofs.at.Goals as goal
-use Rattle.unknowns.proofs.at.Goals.{After-second_difference}
+use Rattle.unknowns.proofs.at.Goals.{After-second_difference, Start}
 
 pub overflow_sub-ys : goal.overflow_sub-ys
 overflow_sub-ys c = omega (arith, c.requires.place_in_bounds)
@@ -30,7 +30,7 @@ first-next-requires c = c.requires.sound
 
 pub loop-i-init : goal.loop-i-init
 unfolding unknown
-loop-i-init c = (omega arith, refl, to_z-of_z {w = w64} (record { sfits = c.first-next.type-inv }) ∙ c.first-next.ensures)
+loop-i-init c = (omega arith, refl, to_z-of_z {w = w64} (record { sfits = c.first-next.type_inv }) ∙ c.first-next.ensures)
 
 pub second_difference-requires : goal.second_difference-requires
 second_difference-requires c =
@@ -40,7 +40,7 @@ terms : (c : After-second_difference) →
     In w64 (held c.entry-scale.result ∷ held c.second_difference.result ∷ bits c.loop-i.next ∷ bits c.loop-i.here ∷ [])
     (pos 1 to pos largest ∷ ± (4 * quintic.ordinates) ∷ ± most_unknown ∷ ± most_unknown ∷ [])
 terms c =
-    let s = c.before.before.before.before.before in
+    let s = (goal.at.After-second_difference c).Start in
     let l = c.loop-i in
     let i : l.i + 2 < length s.args.ys.now = omega (arith, s.requires.place_in_bounds, c.loop-i-test.true) in
     record {
@@ -94,7 +94,7 @@ loop-i-preserved c =
 
 pub returns : goal.returns
 returns c =
-    let s = c.before.before.before.before in
+    let s = (goal.at.returns c).Start in
     let l = c.loop-i in
     let done : l.i ≡ s.args.place = omega (arith, c.loop-i-test.false, l.invariant.0) in
     λ i. record {

@@ -17,7 +17,7 @@ use Rattle.curve.specs.Kind.{quintic}
 use Rattle.cubic.specs.Cubic.{a, δ², sum, largest}
 use Rattle.unknowns.proofs.Ranges.{most_unknown, entry_in, difference_in, sum_in}
 use Rattle.unknowns.proofs.first.Goals as goal
-use Rattle.unknowns.proofs.first.Goals.{After-second_difference}
+use Rattle.unknowns.proofs.first.Goals.{After-second_difference, Start}
 
 pub overflow_sub-inner : goal.overflow_sub-inner
 unfolding quintic
@@ -45,7 +45,7 @@ terms : (c : After-second_difference) →
     In w64 (held c.entry.result ∷ held c.second_difference.result ∷ bits c.loop-k.total ∷ [])
     (pos 1 to pos largest ∷ ± (4 * quintic.ordinates) ∷ ± most_unknown ∷ [])
 terms c =
-    let s = c.before.before.before.before in
+    let s = (goal.at.After-second_difference c).Start in
     let l = c.loop-k in
     let k : l.k < length s.args.ys.now - 2 = c.loop-k-test.true in
     record {

@@ -31,18 +31,18 @@ beyond-requires c = search rules
 
 tested : (c : After-beyond) → beyond quintic.ordinates (get_or c.args.ys.now c.loop-i.i (pos 0)) ≡ c.beyond.result
 unfolding quintic
-tested c = sym (c.beyond.ensures ∙ ap (beyond quintic.ordinates) (widened_is w32 (element c.before) (omega arith)))
+tested c = sym (c.beyond.ensures ∙ ap (beyond quintic.ordinates) (widened_is w32 (element (goal.at.After-beyond c).After-y-1) (omega arith)))
 
 pub overflow_cast-result : goal.overflow_cast-result
 overflow_cast-result c = omega (arith, c.requires)
 
 pub returns-then-beyond : goal.returns-then-beyond
 unfolding in_range refuse
-returns-then-beyond c = rest_stops c.loop-i.invariant (omega arith) (rw (tested c.before ∙ c.if-beyond.true))
+returns-then-beyond c = rest_stops c.loop-i.invariant (omega arith) (rw (tested (goal.at.returns-then-beyond c).After-beyond ∙ c.if-beyond.true))
 
 pub loop-i-preserved : goal.loop-i-preserved
 unfolding in_range refuse
-loop-i-preserved c = rest_passes c.loop-i.invariant (omega arith) (rw (tested c.before ∙ c.if-beyond.false))
+loop-i-preserved c = rest_passes c.loop-i.invariant (omega arith) (rw (tested (goal.at.loop-i-preserved c).After-beyond ∙ c.if-beyond.false))
 
 pub returns : goal.returns
 returns c = rest_accepts c.loop-i.invariant (omega arith)

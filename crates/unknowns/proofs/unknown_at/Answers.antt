@@ -36,31 +36,31 @@ module _ (c : In-Accepted) where
   small = sound accepts
 
 pub returns-then-ys-i : goal.returns-then-ys-i
-returns-then-ys-i c = c.refused-then-ys-i.ensures ∙ ap told (sym (past_last _ _ (accepts c.before.before) c.if-ys-i.true))
+returns-then-ys-i c = c.refused-then-ys-i.ensures ∙ ap told (sym (past_last _ _ (accepts (goal.at.returns-then-ys-i c).In-Accepted) c.if-ys-i.true))
 
 pub overflow_sub-ys : goal.overflow_sub-ys
 unfolding quintic
-overflow_sub-ys c = omega (arith, (small c.before).least)
+overflow_sub-ys c = omega (arith, (small (goal.at.overflow_sub-ys c).In-Accepted).least)
 
 scaled : (c : After-entry-scale) → In w64 (held c.entry-scale.result ∷ []) (pos 1 to pos largest ∷ [])
-scaled c = record { each = (rw c.entry-scale.ensures (entry_in (length (ys c.before.before) - 2) (entered (small c.before.before))), tt) }
+scaled c = record { each = (rw c.entry-scale.ensures (entry_in (length (ys (goal.at.After-entry-scale c).In-Accepted) - 2) (entered (small (goal.at.After-entry-scale c).In-Accepted))), tt) }
 
 pub returns-then-i-eq0 : goal.returns-then-i-eq0
 unfolding scale unknown
 returns-then-i-eq0 c =
-    let d = c.before.before.before in
-    ap₂ answer (sym (ap (λ i. unknown (ys d) i) c.if-i-eq0.true)) (back (scaled c.before) v0 tt ∙ c.entry-scale.ensures)
+    let d = (goal.at.returns-then-i-eq0 c).In-Accepted in
+    ap₂ answer (sym (ap (λ i. unknown (ys d) i) c.if-i-eq0.true)) (back (scaled (goal.at.returns-then-i-eq0 c).After-entry-scale) v0 tt ∙ c.entry-scale.ensures)
     ∙ ap told (sym (solved _ _ (accepts d) c.if-ys-i.false))
 
 pub at-pair-requires : goal.at-pair-requires
-at-pair-requires c = (small c.before.before.before, omega (arith, c.if-ys-i.false))
+at-pair-requires c = (small (goal.at.at-pair-requires c).In-Accepted, omega (arith, c.if-ys-i.false))
 
 pub returns-in-Refused : goal.returns-in-Refused
 returns-in-Refused c = c.refused.ensures ∙ ap told (sym (not_checked _ _ (step_refused c.check.ensures c.in-Refused.is)))
 
 module _ (c : After-struct_told-1) where
   abbrev d : In-Accepted
-  d = c.before.before.before.before.before
+  d = (goal.at.After-struct_told-1 c).In-Accepted
 
   abbrev i : ℕ
   i = d.before.before.before.args.place
@@ -77,8 +77,8 @@ module _ (c : After-struct_told-1) where
 pub returns-else-i-eq0 : goal.returns-else-i-eq0
 unfolding scale quintic
 returns-else-i-eq0 c =
-    ap₂ answer (back (found c) v0 tt ∙ next_is c) (back (scaled c.before.before.before) v0 tt ∙ c.entry-scale.ensures)
+    ap₂ answer (back (found c) v0 tt ∙ next_is c) (back (scaled (goal.at.returns-else-i-eq0 c).After-entry-scale) v0 tt ∙ c.entry-scale.ensures)
     ∙ ap told (sym (solved _ _ (accepts (d c)) c.if-ys-i.false))
 
 pub entry-scale-requires : goal.entry-scale-requires
-entry-scale-requires c = entered (small c.before)
+entry-scale-requires c = entered (small (goal.at.entry-scale-requires c).In-Accepted)

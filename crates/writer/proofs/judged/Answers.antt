@@ -21,10 +21,10 @@ unfolding knots counted
 sized_is c = c.sized.ensures ∙ ap (sizes_named (kind_of c.args.kind) (card c)) c.codes-named.ensures
 
 pub sound-requires : goal.sound-requires
-sound-requires c = long_lists c.args.kind (card c.before.before) (step_accepts (sized_is c.before.before) c.in-Accepted.is)
+sound-requires c = long_lists c.args.kind (card (goal.at.sound-requires c).After-sized) (step_accepts (sized_is (goal.at.sound-requires c).After-sized) c.in-Accepted.is)
 
 pub returns-in-Refused : goal.returns-in-Refused
-returns-in-Refused c = step_refuses _ (sized_is c.before.before.before) c.in-Refused.is ∙ sizes_then _ _
+returns-in-Refused c = step_refuses _ (sized_is (goal.at.returns-in-Refused c).After-sized) c.in-Refused.is ∙ sizes_then _ _
 
 pub returns-in-Accepted : goal.returns-in-Accepted
-returns-in-Accepted c = step_passes _ (sized_is c.before.before.before) c.in-Accepted.is c.sound.ensures ∙ sizes_then _ _
+returns-in-Accepted c = step_passes _ (sized_is (goal.at.returns-in-Accepted c).After-sized) c.in-Accepted.is c.sound.ensures ∙ sizes_then _ _

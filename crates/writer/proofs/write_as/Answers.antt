@@ -26,32 +26,32 @@ card c = let a = c.args in lent a.minutes.now a.ordinates.now a.slopes.now a.cur
 abbrev buffer : After-writable-verdict → List ℕ
 buffer c = c.args.buffer.now
 
-accepts : (c : In_default) → write_order (kind_of (kind c.before.before)) (card c.before.before) (length (buffer c.before.before)) ≡ accepted
+accepts : (c : In_default) → write_order (kind_of (kind (goal.at.In_default c).After-writable-verdict)) (card (goal.at.In_default c).After-writable-verdict) (length (buffer (goal.at.In_default c).After-writable-verdict)) ≡ accepted
 accepts c = step_accepts c.writable-verdict.ensures c.in_default.is
 
-ready : (c : In_default) → Ready (card c.before.before) (length (buffer c.before.before))
-ready c = ready_of (kind c.before.before) _ _ (accepts c)
+ready : (c : In_default) → Ready (card (goal.at.In_default c).After-writable-verdict) (length (buffer (goal.at.In_default c).After-writable-verdict))
+ready c = ready_of (kind (goal.at.In_default c).After-writable-verdict) _ _ (accepts c)
 
 pub returns-in-Refused : goal.returns-in-Refused
 returns-in-Refused c =
-    let w = c.before.before.before in
+    let w = (goal.at.returns-in-Refused c).After-writable-verdict in
     writes_refused (kind_of (kind w)) (card w) (buffer w) (step_refused w.writable-verdict.ensures c.in-Refused.is)
 
 pub put_card-requires : goal.put_card-requires
 put_card-requires c = let t =
-    let t = ready c.before in omega arith in record { minutes_len_bound = t.0; ordinates_len = t.1; minutes_in_bounds = t.2 }
+    let t = ready (goal.at.put_card-requires c).In_default in omega arith in record { minutes_len_bound = t.0; ordinates_len = t.1; minutes_in_bounds = t.2 }
 
 pub overflow_mul-result : goal.overflow_mul-result
-overflow_mul-result c = let t = ready c.before.before.before.before in omega arith
+overflow_mul-result c = let t = ready (goal.at.overflow_mul-result c).In_default in omega arith
 
 pub overflow_add-result : goal.overflow_add-result
-overflow_add-result c = let t = ready c.before.before.before.before in omega arith
+overflow_add-result c = let t = ready (goal.at.overflow_add-result c).In_default in omega arith
 
 pub overflow_cast-result : goal.overflow_cast-result
-overflow_cast-result c = let t = ready c.before.before.before.before in omega arith
+overflow_cast-result c = let t = ready (goal.at.overflow_cast-result c).In_default in omega arith
 
 pub returns : goal.returns
 returns c =
-    let e = c.before.before.before.before in
-    let w = e.before.before in
+    let e = (goal.at.returns c).In_default in
+    let w = (goal.at.In_default e).After-writable-verdict in
     writes_given (kind_of (kind w)) (card w) (buffer w) (accepts e) c.put_card.ensures

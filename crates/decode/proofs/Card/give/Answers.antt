@@ -10,13 +10,14 @@ use Rattle.front.proofs.Filled.{Filled, filled_none, filled_more, filled_by}
 use Rattle.little_endian.proofs.Signs.{passed}
 use Rattle.decode.specs.Decoded.{decoded}
 use Rattle.decode.proofs.Card.give.Goals as goal
+use Rattle.decode.proofs.Card.give.Goals.{At-loop-place, Start}
 
 pub loop-place-init : goal.loop-place-init
 loop-place-init c = (omega arith, filled_none, filled_none, filled_none, filled_none)
 
 pub loop-place-preserved : goal.loop-place-preserved
 loop-place-preserved c =
-    let l = c.before.before.before.before in
+    let l = (goal.at.loop-place-preserved c).At-loop-place in
     let v = l.loop-place.invariant in (
       omega arith,
       filled_more v.1 (omega arith) refl,
@@ -29,7 +30,7 @@ pub returns : goal.returns
 unfolding decoded
 returns c =
     let t = let v = c.loop-place.invariant in
-    let s = c.before.before.before.before.before.before in
+    let s = (goal.at.returns c).Start in
     let e : c.loop-place.place ≡ s.args.self.knots = omega arith in
     let full = s.requires.full in
     let d = s.args.self in (

@@ -26,7 +26,7 @@ use Rattle.gap_curve.proofs.GapCurve.at.Goals.{After-numerators-n, Start}
 
 module _ (c : After-numerators-n) where
   abbrev d : Start
-  d = c.before
+  d = (goal.at.After-numerators-n c).Start
 
   abbrev g : GapCurve
   g = d.args.self
@@ -35,13 +35,13 @@ module _ (c : After-numerators-n) where
   number q = share q c.numerators-n.result
 
   all_is : c.numerators-n.result ≡ added g d.args.t
-  all_is = gives (minute_in d.pre.1) (v1 ∷ []) (λ t. c.numerators-n.result ≡ added g t) tt c.numerators-n.ensures
+  all_is = gives (minute_in d.requires.in_gap) (v1 ∷ []) (λ t. c.numerators-n.result ≡ added g t) tt c.numerators-n.ensures
 
   number_is : (q : Quantity) → number q ≡ share q (added g d.args.t)
   number_is q = ap (share q) all_is
 
   small : (q : Quantity) → nat_abs (number q) < 2 ^ 63
-  small q = let p = d.pre.0 in rw (number_is q ∙ added_is p d.pre.1 q) (numerator_fits q d.pre.1 p.tame)
+  small q = let p = d.requires.laid in rw (number_is q ∙ added_is p d.requires.in_gap q) (numerator_fits q d.requires.in_gap p.tame)
 
   round_is : (q : Quantity) → nearest (number q) (beneath q g) ≡ nearest (share q (added g d.args.t)) (beneath q g)
   round_is q = ap (λ n. nearest n (beneath q g)) (number_is q)
@@ -49,9 +49,9 @@ module _ (c : After-numerators-n) where
   -- what `rounded` asks, and what it gives
   asks_rounded : (q : Quantity) → (let n = to_z w64 (of_z w64 (number q)) in ((0 < beneath q g) × (nat_abs n < 2 ^ 63)) × (nat_abs (nearest n (beneath q g)) < 2 ^ 31))
   asks_rounded q =
-      let p = d.pre.0 in
+      let p = d.requires.laid in
       asked w64 (held (number q) ∷ []) (v0 ∷ []) (λ n. ((0 < beneath q g) × (nat_abs n < 2 ^ 63)) × (nat_abs (nearest n (beneath q g)) < 2 ^ 31)) (abs_fits (small q), tt)
-      ((rw (beneath_is p q) (denominator_positive q d.pre.1 p.tame), small q), rw (round_is q ∙ rounds_is p d.pre.1 q) (reading_fits q d.pre.1 p.tame))
+      ((rw (beneath_is p q) (denominator_positive q d.requires.in_gap p.tame), small q), rw (round_is q ∙ rounds_is p d.requires.in_gap q) (reading_fits q d.requires.in_gap p.tame))
 
   stored : (q : Quantity) {z : ℤ} → mag z < 2 ^ 31 → z ≡ nearest (to_z w64 (of_z w64 (number q))) (beneath q g) → to_z w32 (of_z w32 z) ≡ nearest (share q (added g d.args.t)) (beneath q g)
   stored q {z} f e =
@@ -62,22 +62,22 @@ module _ (c : After-numerators-n) where
 pub returns : goal.returns
 unfolding read_of
 returns c =
-    let n = c.before.before.before.before.before.before in
+    let n = (goal.at.returns c).After-numerators-n in
     λ i.
     record {
-      value = stored n Value c.rounded.type-inv c.rounded.ensures i;
-      slope = stored n Slope c.rounded-2.type-inv c.rounded-2.ensures i;
-      curvature = stored n Curvature c.rounded-3.type-inv c.rounded-3.ensures i;
+      value = stored n Value c.rounded.type_inv c.rounded.ensures i;
+      slope = stored n Slope c.rounded-2.type_inv c.rounded-2.ensures i;
+      curvature = stored n Curvature c.rounded-3.type_inv c.rounded-3.ensures i;
     }
 
 pub rounded-requires : goal.rounded-requires
 rounded-requires c =
-    let t = asks_rounded c.before Value in record { d_nonzero = t.0; d_bound = t.1 }
+    let t = asks_rounded (goal.at.rounded-requires c).After-numerators-n Value in record { d_nonzero = t.0; d_bound = t.1 }
 
 pub rounded-requires-2 : goal.rounded-requires-2
 rounded-requires-2 c =
-    let t = asks_rounded c.before.before.before Slope in record { d_nonzero = t.0; d_bound = t.1 }
+    let t = asks_rounded (goal.at.rounded-requires-2 c).After-numerators-n Slope in record { d_nonzero = t.0; d_bound = t.1 }
 
 pub rounded-requires-3 : goal.rounded-requires-3
 rounded-requires-3 c =
-    let t = asks_rounded c.before.before.before.before.before Curvature in record { d_nonzero = t.0; d_bound = t.1 }
+    let t = asks_rounded (goal.at.rounded-requires-3 c).After-numerators-n Curvature in record { d_nonzero = t.0; d_bound = t.1 }

@@ -24,19 +24,19 @@ use Rattle.gap_curve.proofs.GapCurve.numerators.Goals as goal
 use Rattle.gap_curve.proofs.GapCurve.numerators.Goals.{After-shares_of-a, After-shares_of-b, After-struct_told-4-1, Start}
 
 abbrev start : After-struct_told-4-1 → Start
-start c = c.before.before.before.before.before.before.before
+start c = (goal.at.After-struct_told-4-1 c).Start
 
 pub shares_of-a-requires : goal.shares_of-a-requires
 shares_of-a-requires c = let q = (start c).requires in let f = fair_left q.0 q.1 in asks (on_gap q.1 f) leftwards (λ l r b t s. Fair (by_powers l r b) t s) tt f
 
 pub shares_of-b-requires : goal.shares_of-b-requires
-shares_of-b-requires c = let q = (start c.before.before.before.before).requires in let f = fair_right q.0 q.1 in asks (on_gap q.1 f) rightwards (λ l r b s t. Fair (by_powers l r b) s t) tt f
+shares_of-b-requires c = let q = (start (goal.at.shares_of-b-requires c).After-struct_told-4-1).requires in let f = fair_right q.0 q.1 in asks (on_gap q.1 f) rightwards (λ l r b s t. Fair (by_powers l r b) s t) tt f
 
 -- ---- together
 
 module _ (c : After-shares_of-b) where
   abbrev first : After-shares_of-a
-  first = c.before.before.before.before
+  first = (goal.at.After-shares_of-b c).After-shares_of-a
 
   abbrev d : Start
   d = start first.before
@@ -51,16 +51,16 @@ module _ (c : After-shares_of-b) where
   g = d.args.self
 
   left_added : first.shares_of.result ≡ shares g.left t (h -ℤ t)
-  left_added = gives (on_gap d.pre.1 (fair_left d.pre.0 d.pre.1)) leftwards (λ l r b t s. first.shares_of.result ≡ shares (by_powers l r b) t s) tt first.shares_of.ensures
+  left_added = gives (on_gap d.requires.in_gap (fair_left d.requires.laid d.requires.in_gap)) leftwards (λ l r b t s. first.shares_of.result ≡ shares (by_powers l r b) t s) tt first.shares_of.ensures
 
   right_added : c.shares_of-b.result ≡ shares g.right (h -ℤ t) t
-  right_added = gives (on_gap d.pre.1 (fair_right d.pre.0 d.pre.1)) rightwards (λ l r b s t. c.shares_of-b.result ≡ shares (by_powers l r b) s t) tt c.shares_of-b.ensures
+  right_added = gives (on_gap d.requires.in_gap (fair_right d.requires.laid d.requires.in_gap)) rightwards (λ l r b s t. c.shares_of-b.result ≡ shares (by_powers l r b) s t) tt c.shares_of-b.ensures
 
   abbrev both : Quantity → List Src
   both q = held (share q first.shares_of.result) ∷ held (share q c.shares_of-b.result) ∷ []
 
   small : (q : Quantity) → nat_abs (share q first.shares_of.result) + nat_abs (share q c.shares_of-b.result) < 2 ^ 63
-  small q = omega (arith, ap (λ n. nat_abs (share q n)) left_added, ap (λ n. nat_abs (share q n)) right_added, sides_fit d.pre.0 d.pre.1 q)
+  small q = omega (arith, ap (λ n. nat_abs (share q n)) left_added, ap (λ n. nat_abs (share q n)) right_added, sides_fit d.requires.laid d.requires.in_gap q)
 
   abbrev put : Quantity → E
   put Value = v0 :+ v1
@@ -81,7 +81,7 @@ module _ (c : After-shares_of-b) where
 pub returns : goal.returns
 unfolding added
 returns c =
-    let e = c.before.before.before.before.before.before.before.before.before.before.before.before in
+    let e = (goal.at.returns c).After-shares_of-b in
     let l = left_added e in
     let r = right_added e in
     λ i.
@@ -98,10 +98,10 @@ pub overflow_sub-s : goal.overflow_sub-s
 overflow_sub-s c = step (minute_in c.requires.in_gap) (v0 :- v1) tt
 
 pub overflow_add-result : goal.overflow_add-result
-overflow_add-result c = does_put c.before.before.before.before Value
+overflow_add-result c = does_put (goal.at.overflow_add-result c).After-shares_of-b Value
 
 pub overflow_sub-result : goal.overflow_sub-result
-overflow_sub-result c = does_put c.before.before.before.before.before.before.before.before Slope
+overflow_sub-result c = does_put (goal.at.overflow_sub-result c).After-shares_of-b Slope
 
 pub overflow_add-result-2 : goal.overflow_add-result-2
-overflow_add-result-2 c = does_put c.before.before.before.before.before.before.before.before.before.before.before.before Curvature
+overflow_add-result-2 c = does_put (goal.at.overflow_add-result-2 c).After-shares_of-b Curvature

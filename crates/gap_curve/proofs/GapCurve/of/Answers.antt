@@ -27,17 +27,17 @@ pub of-left-requires : goal.of-left-requires
 of-left-requires c = asks (within c) (v0 ∷ []) (λ h. (InGap h h) × (Keeps near c.args.a)) tt (c.requires.in_gap, left_near c.requires.in_gap c.requires.tame)
 
 pub mirrored-requires : goal.mirrored-requires
-mirrored-requires c = let d = c.before in omega (arith, (right_far Value d.requires.in_gap d.requires.tame).slope)
+mirrored-requires c = let d = (goal.at.mirrored-requires c).Start in omega (arith, (right_far Value d.requires.in_gap d.requires.tame).slope)
 
 pub of-right-requires : goal.of-right-requires
 of-right-requires c =
-    let d = c.before.before in
+    let d = (goal.at.of-right-requires c).Start in
     asks (within d) (v0 ∷ []) (λ h. (InGap h h) × (Keeps near c.mirrored.result)) tt (rw c.mirrored.ensures (d.requires.in_gap, right_near d.requires.in_gap d.requires.tame))
 
 pub returns : goal.returns
 unfolding laid
 returns c =
-    let d = c.before.before.before.before.before in
+    let d = (goal.at.returns c).Start in
     let a = d.args in
     λ i.
     record {

@@ -24,19 +24,19 @@ use Rattle.gap_curve.proofs.GapCurve.value_at.Goals as goal
 use Rattle.gap_curve.proofs.GapCurve.value_at.Goals.{After-struct_told-4-1, After-value_share-a, After-value_share-b, Start}
 
 abbrev start : After-struct_told-4-1 → Start
-start c = c.before.before.before.before.before.before.before
+start c = (goal.at.After-struct_told-4-1 c).Start
 
 pub value_share-a-requires : goal.value_share-a-requires
 value_share-a-requires c = let q = (start c).requires in let f = fair_left q.0 q.1 in asks (on_gap q.1 f) leftwards (λ l r b t s. Fair (by_powers l r b) t s) tt f
 
 pub value_share-b-requires : goal.value_share-b-requires
-value_share-b-requires c = let q = (start c.before.before.before.before).requires in let f = fair_right q.0 q.1 in asks (on_gap q.1 f) rightwards (λ l r b s t. Fair (by_powers l r b) s t) tt f
+value_share-b-requires c = let q = (start (goal.at.value_share-b-requires c).After-struct_told-4-1).requires in let f = fair_right q.0 q.1 in asks (on_gap q.1 f) rightwards (λ l r b s t. Fair (by_powers l r b) s t) tt f
 
 -- ---- together
 
 module _ (c : After-value_share-b) where
   abbrev first : After-value_share-a
-  first = c.before.before.before.before
+  first = (goal.at.After-value_share-b c).After-value_share-a
 
   abbrev d : Start
   d = start first.before
@@ -54,17 +54,17 @@ module _ (c : After-value_share-b) where
   r = c.value_share-b.result
 
   left_is : l ≡ (shares g.left t (g.h -ℤ t)).value
-  left_is = gives (on_gap d.pre.1 (fair_left d.pre.0 d.pre.1)) leftwards (λ a b e t s. l ≡ (shares (by_powers a b e) t s).value) tt first.value-share.ensures
+  left_is = gives (on_gap d.requires.in_gap (fair_left d.requires.laid d.requires.in_gap)) leftwards (λ a b e t s. l ≡ (shares (by_powers a b e) t s).value) tt first.value-share.ensures
 
   right_is : r ≡ (shares g.right (g.h -ℤ t) t).value
-  right_is = gives (on_gap d.pre.1 (fair_right d.pre.0 d.pre.1)) rightwards (λ a b e s t. r ≡ (shares (by_powers a b e) s t).value) tt c.value_share-b.ensures
+  right_is = gives (on_gap d.requires.in_gap (fair_right d.requires.laid d.requires.in_gap)) rightwards (λ a b e s t. r ≡ (shares (by_powers a b e) s t).value) tt c.value_share-b.ensures
 
   sum_is : l +ℤ r ≡ (added g t).value
   unfolding added
   sum_is = ap₂ ◌+ℤ◌ left_is right_is
 
   small : nat_abs l + nat_abs r < 2 ^ 63
-  small = omega (arith, ap nat_abs left_is, ap nat_abs right_is, sides_fit d.pre.0 d.pre.1 Value)
+  small = omega (arith, ap nat_abs left_is, ap nat_abs right_is, sides_fit d.requires.laid d.requires.in_gap Value)
 
   abbrev both : List Src
   both = held l ∷ held r ∷ []
@@ -77,16 +77,16 @@ module _ (c : After-value_share-b) where
 
 pub rounded-requires : goal.rounded-requires
 rounded-requires c =
-    let t = let p = (d c).requires.0 in
-    let i = (d c).requires.1 in
+    let t = let p = (d c).requires.laid in
+    let i = (d c).requires.in_gap in
     asked w64 (both c) ((v0 :+ v1) ∷ []) (λ n. ((0 < (g c).under) × (nat_abs n < 2 ^ 63)) × (nat_abs (nearest n (g c).under) < 2 ^ 31)) (fits c, tt)
     ((rw (beneath_is p Value) (denominator_positive Value i p.tame), rw (sum_is c ∙ added_is p i Value) (numerator_fits Value i p.tame)), rw (round_is c ∙ rounds_is p i Value) (reading_fits Value i p.tame)) in record { d_nonzero = t.0; d_bound = t.1 }
 
 pub returns : goal.returns
 unfolding read_of
 returns c =
-    let n = c.before in
-    to_z-of_z {w = w32} {z = c.rounded.result} (record { sfits = c.rounded.type-inv })
+    let n = (goal.at.returns c).After-value_share-b in
+    to_z-of_z {w = w32} {z = c.rounded.result} (record { sfits = c.rounded.type_inv })
     ∙ told w64 (both n) ((v0 :+ v1) ∷ []) (λ z. c.rounded.result ≡ nearest z (g n).under) (fits n, tt) c.rounded.ensures
     ∙ round_is n
 

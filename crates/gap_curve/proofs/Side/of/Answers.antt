@@ -16,7 +16,7 @@ use Rattle.gap_curve.proofs.Side.of.Goals as goal
 use Rattle.gap_curve.proofs.Side.of.Goals.{After-struct_told-3-1, Start}
 
 abbrev start : After-struct_told-3-1 → Start
-start c = c.before.before.before
+start c = (goal.at.After-struct_told-3-1 c).Start
 
 abbrev args : After-struct_told-3-1 → List Src
 args c = let a = (start c).args in held a.h ∷ held a.k.ordinate ∷ held a.k.slope ∷ held a.k.curvature ∷ []

@@ -27,7 +27,7 @@ use Rattle.jumps.proofs.Spans.of.Goals as goal
 use Rattle.jumps.proofs.Spans.of.Goals.{After-cleared-cube, After-struct_told-6-1, Else-not-asked, Start}
 
 abbrev start : After-struct_told-6-1 → Start
-start c = c.before.before.before.before.before.before
+start c = (goal.at.After-struct_told-6-1 c).Start
 
 abbrev args : After-struct_told-6-1 → List Src
 args c =
@@ -39,17 +39,17 @@ tops = pos 0 to pos widest ∷ ± (2 ^ 31) ∷ ± (2 ^ 31) ∷ ± (2 ^ 31) ∷ �
 
 within : (c : After-struct_told-6-1) → In w64 (args c) tops
 within c =
-    let p = (start c).requires.0 in
+    let p = (start c).requires.held in
     let o = p.own in
     let n = p.other in
-    record { each = (gap_in p.gap, (∈_abs o.ordinate, (∈_abs o.slope, (∈_abs o.curvature, (∈_abs n.ordinate, (∈_abs n.slope, (∈_abs n.curvature, (∈_abs (start c).requires.1, tt)))))))) }
+    record { each = (gap_in p.gap, (∈_abs o.ordinate, (∈_abs o.slope, (∈_abs o.curvature, (∈_abs n.ordinate, (∈_abs n.slope, (∈_abs n.curvature, (∈_abs (start c).requires.square_bound, tt)))))))) }
 
 op : (e : E) → T (safe w64 tops e) → (c : After-struct_told-6-1) → SFits w64 (res w64 (args c) e)
 op e t c = step (within c) e t
 
 -- one of the fourth's
-fourth : (e : E) → T (safe w64 tops e) → (c : Else-not-asked) → SFits w64 (res w64 (args c.before.before) e)
-fourth e t c = op e t c.before.before
+fourth : (e : E) → T (safe w64 tops e) → (c : Else-not-asked) → SFits w64 (res w64 (args (goal.at.Else-not-asked c).After-struct_told-6-1) e)
+fourth e t c = op e t (goal.at.Else-not-asked c).After-struct_told-6-1
 
 abbrev rise : E
 rise = rises y y'
@@ -116,8 +116,8 @@ module _ (c : After-struct_told-6-1) where
         leeway = leeway_is o i;
       }
 
-third_is : (c : After-cleared-cube) → laid c.before Third c.cleared-cube.result ≡ sought c.before Third
-third_is c = span_is c.before Third (record { sfits = c.cleared-cube.type-inv }) c.cleared-cube.ensures
+third_is : (c : After-cleared-cube) → laid (goal.at.After-cleared-cube c).After-struct_told-6-1 Third c.cleared-cube.result ≡ sought (goal.at.After-cleared-cube c).After-struct_told-6-1 Third
+third_is c = span_is (goal.at.After-cleared-cube c).After-struct_told-6-1 Third (record { sfits = c.cleared-cube.type_inv }) c.cleared-cube.ensures
 
 -- the fourth, by whether it is asked
 told : (c : After-struct_told-6-1) {left : Bool} → not (start c).args.asked ≡ left → cond left no_span (sought c Fourth) ≡ cond (start c).args.asked (sought c Fourth) no_span
@@ -126,18 +126,6 @@ told c e = ap (λ f. cond f no_span (sought c Fourth)) (sym e) ∙ turned (start
     turned : (asked : Bool) → cond (not asked) no_span (sought c Fourth) ≡ cond asked (sought c Fourth) no_span
     turned true = refl
     turned false = refl
-
-pub returns-then-not-asked : goal.returns-then-not-asked
-unfolding spans
-returns-then-not-asked c =
-    let b = c.before.before in
-    λ i. record { third = third_is b i; fourth = (c.none.ensures ∙ told b.before c.if-not-asked.true) i }
-
-pub returns : goal.returns
-unfolding spans
-returns c =
-    let b = c.before.before in
-    λ i. record { third = third_is b i; fourth = (span_is b.before Fourth (record { sfits = c.cleared-fourth.type-inv }) c.cleared-fourth.ensures ∙ told b.before c.if-not-asked.false) i }
 
 pub overflow_sub-rise : goal.overflow_sub-rise
 overflow_sub-rise = op (y' :- y) tt
@@ -218,7 +206,7 @@ pub overflow_mul-leeway-2 : goal.overflow_mul-leeway-2
 overflow_mul-leeway-2 = op (leewayE Third) tt
 
 pub cleared-cube-requires : goal.cleared-cube-requires
-cleared-cube-requires c = asks (within c) (h ∷ []) Gap tt (start c).requires.0.gap
+cleared-cube-requires c = asks (within c) (h ∷ []) Gap tt (start c).requires.held.gap
 
 pub overflow_mul-ahead4 : goal.overflow_mul-ahead4
 overflow_mul-ahead4 = fourth (# 16 :* s) tt
@@ -284,4 +272,16 @@ pub overflow_mul-leeway4-2 : goal.overflow_mul-leeway4-2
 overflow_mul-leeway4-2 = fourth (leewayE Fourth) tt
 
 pub cleared-fourth-requires : goal.cleared-fourth-requires
-cleared-fourth-requires c = asks (within c.before.before) (h ∷ []) Gap tt (start c.before.before).requires.0.gap
+cleared-fourth-requires c = asks (within (goal.at.cleared-fourth-requires c).After-struct_told-6-1) (h ∷ []) Gap tt (start (goal.at.cleared-fourth-requires c).After-struct_told-6-1).requires.held.gap
+
+pub returns : goal.returns
+unfolding spans
+returns c =
+    let b = (goal.at.returns c).After-cleared-cube in
+    λ i. record { third = third_is b i; fourth = (span_is (goal.at.After-cleared-cube b).After-struct_told-6-1 Fourth (record { sfits = c.cleared-fourth.type_inv }) c.cleared-fourth.ensures ∙ told (goal.at.After-cleared-cube b).After-struct_told-6-1 (ap not c.if-not-asked.false)) i }
+
+pub returns-then-not-asked : goal.returns-then-not-asked
+unfolding spans
+returns-then-not-asked c =
+    let b = (goal.at.returns-then-not-asked c).After-cleared-cube in
+    λ i. record { third = third_is b i; fourth = (c.none.ensures ∙ told (goal.at.After-cleared-cube b).After-struct_told-6-1 (ap not c.if-not-asked.true)) i }

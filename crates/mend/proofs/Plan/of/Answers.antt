@@ -14,7 +14,7 @@ use Rattle.mend.specs.Changes.{change_at, changes_to, changes}
 use Rattle.mend.specs.Promise.{column, plan_of}
 use Rattle.mend.proofs.Columns.{Holds, holds_more, changes_more, no_more_changes}
 use Rattle.mend.proofs.Plan.of.Goals as goal
-use Rattle.mend.proofs.Plan.of.Goals.{After-struct_told-in-loop-i-1}
+use Rattle.mend.proofs.Plan.of.Goals.{After-struct_told-in-loop-i-1, Start}
 
 pub loop-i-init : goal.loop-i-init
 unfolding changes_to column
@@ -52,19 +52,19 @@ bounds-news-count c = few c
 pub overflow_add-count : goal.overflow_add-count
 overflow_add-count c =
     let l = c.loop-i in
-    omega (arith, few c.before, c.one_at-count.ensures, at_most_one (hole_at c.args.sheet.now l.i))
+    omega (arith, few (goal.at.overflow_add-count c).After-struct_told-in-loop-i-1, c.one_at-count.ensures, at_most_one (hole_at c.args.sheet.now l.i))
 
 pub overflow_add-i : goal.overflow_add-i
 overflow_add-i c = omega (arith, c.requires)
 
 pub loop-i-preserved : goal.loop-i-preserved
 loop-i-preserved c =
-    let s = c.before.before.before.before.before.before in
+    let s = (goal.at.loop-i-preserved c).Start in
     let l = c.loop-i in
     let r = c.change_at-change in
     let old_is : to_z w32 (of_z w32 r.result.old) ≡ r.result.old = search rules in
     let new_is : to_z w32 (of_z w32 r.result.new) ≡ r.result.new = search rules in
-    (omega arith, rw (changes_more s.args.sheet.now s.args.mended.now l.i, old_is, new_is) (holds_more (hole_at s.args.sheet.now l.i) (change_at s.args.sheet.now s.args.mended.now l.i) l.invariant.1 (few c.before) r.ensures c.one_at-count.ensures))
+    (omega arith, rw (changes_more s.args.sheet.now s.args.mended.now l.i, old_is, new_is) (holds_more (hole_at s.args.sheet.now l.i) (change_at s.args.sheet.now s.args.mended.now l.i) l.invariant.1 (few (goal.at.loop-i-preserved c).After-struct_told-in-loop-i-1) r.ensures c.one_at-count.ensures))
 
 pub overflow_cast-result : goal.overflow_cast-result
 overflow_cast-result c =

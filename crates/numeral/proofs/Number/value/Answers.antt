@@ -15,7 +15,7 @@ pub loop-i-init : goal.loop-i-init
 loop-i-init c = summed_none _ _
 
 pub overflow_sub-sum : goal.overflow_sub-sum
-overflow_sub-sum c = from_zero c.before
+overflow_sub-sum c = from_zero (goal.at.overflow_sub-sum c).In-loop-i
 
 pub overflow_cast-sum : goal.overflow_cast-sum
 overflow_cast-sum c = omega (arith, c.shared_slice_known-1.given c.loop-i.i)

@@ -24,21 +24,21 @@ in_16_bits (negsuc n) l g = omega (arith, ltb-false 32767 n l)
 
 inside : (c : Else-z-gt32767) → mag c.in-Told.z < 2 ^ 15
 inside c =
-    let q = c.before.before in
+    let q = (goal.at.Else-z-gt32767 c).In-Told in
     in_16_bits q.in-Told.z (rw (same q) at c.if-z-ltminus32768.false) (rw (same q) at c.if-z-gt32767.false)
 
 pub returns-then-z-ltminus32768 : goal.returns-then-z-ltminus32768
 unfolding narrowed
-returns-then-z-ltminus32768 c = rw (c.in-Told.is, rw (same c.before) at c.if-z-ltminus32768.true)
+returns-then-z-ltminus32768 c = rw (c.in-Told.is, rw (same (goal.at.returns-then-z-ltminus32768 c).In-Told) at c.if-z-ltminus32768.true)
 
 pub returns-then-z-gt32767 : goal.returns-then-z-gt32767
 unfolding narrowed
 returns-then-z-gt32767 c =
-    let q = c.before.before in
+    let q = (goal.at.returns-then-z-gt32767 c).In-Told in
     rw (q.in-Told.is, rw (same q) at c.if-z-ltminus32768.false, rw (same q) at c.if-z-gt32767.true)
 
 pub overflow_cast-result : goal.overflow_cast-result
-overflow_cast-result c = let q = c.before.before in rw (same q) (record { sfits = inside c })
+overflow_cast-result c = let q = (goal.at.overflow_cast-result c).In-Told in rw (same q) (record { sfits = inside c })
 
 pub returns-in-Untold : goal.returns-in-Untold
 unfolding narrowed
@@ -47,5 +47,5 @@ returns-in-Untold c = rw c.in-Untold.is
 pub returns-else-z-gt32767 : goal.returns-else-z-gt32767
 unfolding narrowed
 returns-else-z-gt32767 c =
-    let q = c.before.before in
+    let q = (goal.at.returns-else-z-gt32767 c).In-Told in
     rw (q.in-Told.is, same q, rw (same q) at c.if-z-ltminus32768.false, rw (same q) at c.if-z-gt32767.false) (rw (passed w16 q.in-Told.z (inside c)))

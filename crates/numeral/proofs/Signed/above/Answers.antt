@@ -12,10 +12,10 @@ whole : (c : In-Whole-2) → natural 2147483647 c.args.digits.now ≡ Whole c.in
 whole c = sym c.natural.ensures ∙ c.in-Whole.is
 
 pub overflow_cast-result : goal.overflow_cast-result
-overflow_cast-result c = let h = natural_upto _ _ (whole c.before) in record { sfits = omega arith }
+overflow_cast-result c = let h = natural_upto _ _ (whole (goal.at.overflow_cast-result c).In-Whole-2) in record { sfits = omega arith }
 
 pub returns-in-Whole : goal.returns-in-Whole
-returns-in-Whole c = is_above _ (whole c.before)
+returns-in-Whole c = is_above _ (whole (goal.at.returns-in-Whole c).In-Whole-2)
 
 pub returns-in-Bad : goal.returns-in-Bad
 unfolding above

@@ -10,13 +10,13 @@ use Rattle.opened.specs.Steps.{laid_out}
 use Rattle.opened.proofs.Shape.{card_verdict_is, quintic_few, shape_room}
 use borrow.Author.Rules.{rules}
 use Rattle.opened.proofs.Opened.of.Goals as goal
-use Rattle.opened.proofs.Opened.of.Goals.{After-of-held}
+use Rattle.opened.proofs.Opened.of.Goals.{After-of-held, In-Accepted}
 
 pub of-held-requires : goal.of-held-requires
 of-held-requires c = shape_room _ quintic_few _ (step_accepts c.shaped.ensures c.in-Accepted.is)
 
 opened : (c : After-of-held) → Holds c.of-held.result c.args.card.now
-opened c = holds _ (of-held-requires c.before c.lifetimes).0 c.of-held.ensures
+opened c = holds _ (of-held-requires (goal.at.After-of-held c).In-Accepted c.lifetimes).0 c.of-held.ensures
 
 pub sound-requires : goal.sound-requires
 sound-requires c = (opened c).full
@@ -38,6 +38,6 @@ returns-in-Accepted c =
     let a = c.in-Accepted.is in
     record {
       kind = refl;
-      judged = step_passes _ v a (c.sound.ensures ∙ ap (sound K) (opened c.before).is) ∙ card_verdict_is _ _;
+      judged = step_passes _ v a (c.sound.ensures ∙ ap (sound K) (opened (goal.at.returns-in-Accepted c).After-of-held).is) ∙ card_verdict_is _ _;
       card = c.of-held.ensures ∙ ap (λ u. laid_out u s) (sym (step_accepts v a));
     }

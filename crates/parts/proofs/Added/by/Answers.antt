@@ -11,7 +11,7 @@ use Rattle.parts.proofs.Added.by.Goals as goal
 use Rattle.parts.proofs.Added.by.Goals.{After-struct_told-6-1, Start}
 
 abbrev start : After-struct_told-6-1 → Start
-start c = c.before.before.before.before.before.before
+start c = (goal.at.After-struct_told-6-1 c).Start
 
 abbrev args : After-struct_told-6-1 → List Src
 args c = let a = (start c).args in numbers a.h a.k a.w

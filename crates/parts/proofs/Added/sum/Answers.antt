@@ -14,7 +14,7 @@ use Rattle.parts.proofs.Added.sum.Goals as goal
 use Rattle.parts.proofs.Added.sum.Goals.{After-struct_told-3-1, Start}
 
 abbrev start : After-struct_told-3-1 → Start
-start c = c.before.before.before
+start c = (goal.at.After-struct_told-3-1 c).Start
 
 abbrev args : After-struct_told-3-1 → List Src
 args c = let a = (start c).args.self in held a.ordinate ∷ held a.slope ∷ held a.curvature ∷ []

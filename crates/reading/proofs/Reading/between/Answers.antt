@@ -27,11 +27,11 @@ stored c q {z} f e =
 
 pub returns : goal.returns
 returns c =
-    let d = c.before.before.before in
+    let d = (goal.at.returns c).Start in
     (λ i.
     record {
-      value = stored d Value c.rounded.type-inv c.rounded.ensures i;
-      slope = stored d Slope c.rounded-2.type-inv c.rounded-2.ensures i;
-      curvature = stored d Curvature c.rounded-3.type-inv c.rounded-3.ensures i;
+      value = stored d Value c.rounded.type_inv c.rounded.ensures i;
+      slope = stored d Slope c.rounded-2.type_inv c.rounded-2.ensures i;
+      curvature = stored d Curvature c.rounded-3.type_inv c.rounded-3.ensures i;
     })
     ∙ sym (reading_is d.args.a d.args.b d.requires.in_gap)

@@ -21,7 +21,7 @@ overflow_add-start-then-is_at c = let w = (standing _ _ _ _ (there c)).whole in 
 pub returns-then-is_at : goal.returns-then-is_at
 returns-then-is_at c =
     let a = c.args in
-    rw c.new.ensures (found a.list.now a.self.at a.kind a.length (there c.before))
+    rw c.new.ensures (found a.list.now a.self.at a.kind a.length (there (goal.at.returns-then-is_at c).Then-is_at))
 
 pub returns-else-is_at : goal.returns-else-is_at
 returns-else-is_at c = bad _ _ _ _ (sym c.is_at.ensures ∙ c.if-is_at.false)

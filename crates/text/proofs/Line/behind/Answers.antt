@@ -4,6 +4,7 @@ use borrow.Author.Rules.{rules}
 use borrow.Author.Tests.{eq-eqb, ne_eqb}
 use Rattle.text.specs.Sheet.{with_ordinate, behind}
 use Rattle.text.proofs.Line.behind.Goals as goal
+use Rattle.text.proofs.Line.behind.Goals.{Else-starts}
 
 pub returns-then-word-eq1 : goal.returns-then-word-eq1
 unfolding behind
@@ -16,5 +17,5 @@ returns-then-starts c = rw (sym c.starts.ensures ∙ c.if-starts.true, ne_eqb _ 
 pub returns : goal.returns
 unfolding behind
 returns c =
-    let q = c.before.before in
+    let q = (goal.at.returns c).Else-starts in
     rw (sym q.starts.ensures ∙ q.if-starts.false) (c.with_ordinate.ensures ∙ ap (with_ordinate _) c.of.ensures)

@@ -14,7 +14,7 @@ minute : (c : In-Whole-2) → natural latest c.args.minute.now ≡ Whole c.in-Wh
 minute c = sym c.natural.ensures ∙ c.in-Whole.is
 
 pub overflow_cast-x : goal.overflow_cast-x
-overflow_cast-x c = omega (arith, natural_upto _ _ (minute c.before))
+overflow_cast-x c = omega (arith, natural_upto _ _ (minute (goal.at.overflow_cast-x c).In-Whole-2))
 
 pub returns-in-Bad : goal.returns-in-Bad
 unfolding knot_by
@@ -22,4 +22,4 @@ returns-in-Bad c = rw (sym c.natural.ensures ∙ c.in-Bad.is)
 
 pub returns-in-Whole : goal.returns-in-Whole
 unfolding knot_by
-returns-in-Whole c = rw (minute c.before.before) c.behind.ensures
+returns-in-Whole c = rw (minute (goal.at.returns-in-Whole c).In-Whole-2) c.behind.ensures

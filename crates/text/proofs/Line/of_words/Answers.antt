@@ -7,7 +7,7 @@ use Rattle.text.specs.Sheet.{knot, with_slope}
 use Rattle.split.specs.declared.Mark.TheVariants.{Blank, Word}
 use Rattle.text.proofs.Lines.{no_words, one_word, two_words, three_words, four_words}
 use Rattle.text.proofs.Line.of_words.Goals as goal
-use Rattle.text.proofs.Line.of_words.Goals.{After-knot-two, After-past-fourth, After-past-second, After-past-third}
+use Rattle.text.proofs.Line.of_words.Goals.{After-knot-two, After-past-fourth, After-past-second, After-past-third, Else-first-eq0, Else-fourth-gt0, Else-second-eq0, Else-third-eq0}
 
 second : (c : After-past-second) → c.past-second.result.now ≡ past Word (past Blank c.past-first.result.now)
 second c = c.past-second.ensures ∙ ap (past Word) c.past.ensures
@@ -28,30 +28,30 @@ returns-then-first-eq0 c = no_words _ c.past-first.ensures c.if-first-eq0.true
 
 pub returns-then-second-eq0 : goal.returns-then-second-eq0
 returns-then-second-eq0 c =
-    let q = c.before.before.before in
-    one_word _ q.past-first.ensures q.if-first-eq0.false (second c.before) c.if-second-eq0.true
+    let q = (goal.at.returns-then-second-eq0 c).Else-first-eq0 in
+    one_word _ q.past-first.ensures q.if-first-eq0.false (second (goal.at.returns-then-second-eq0 c).After-past-second) c.if-second-eq0.true
 
 pub returns-then-third-eq0 : goal.returns-then-third-eq0
 returns-then-third-eq0 c =
-    let k = c.before.before.before in
-    let r = k.before.before.before in
-    let q = r.before.before.before in
-    pair k ∙ two_words _ q.past-first.ensures q.if-first-eq0.false (second r.before) r.if-second-eq0.false (third c.before) c.if-third-eq0.true
+    let k = (goal.at.returns-then-third-eq0 c).After-knot-two in
+    let r = (goal.at.After-knot-two k).Else-second-eq0 in
+    let q = (goal.at.Else-second-eq0 r).Else-first-eq0 in
+    pair k ∙ two_words _ q.past-first.ensures q.if-first-eq0.false (second (goal.at.Else-second-eq0 r).After-past-second) r.if-second-eq0.false (third (goal.at.returns-then-third-eq0 c).After-past-third) c.if-third-eq0.true
 
 pub returns-then-fourth-gt0 : goal.returns-then-fourth-gt0
 returns-then-fourth-gt0 c =
-    let e = c.before.before.before in
-    let r = e.before.before.before.before.before.before in
-    let q = r.before.before.before in
-    four_words _ q.past-first.ensures q.if-first-eq0.false (second r.before) r.if-second-eq0.false (third e.before) e.if-third-eq0.false (fourth c.before) c.if-fourth-gt0.true
+    let e = (goal.at.returns-then-fourth-gt0 c).Else-third-eq0 in
+    let r = (goal.at.Else-third-eq0 e).Else-second-eq0 in
+    let q = (goal.at.Else-second-eq0 r).Else-first-eq0 in
+    four_words _ q.past-first.ensures q.if-first-eq0.false (second (goal.at.Else-second-eq0 r).After-past-second) r.if-second-eq0.false (third (goal.at.Else-third-eq0 e).After-past-third) e.if-third-eq0.false (fourth (goal.at.returns-then-fourth-gt0 c).After-past-fourth) c.if-fourth-gt0.true
 
 pub returns : goal.returns
 returns c =
-    let d = c.before.before.before in
-    let e = d.before.before.before in
-    let k = e.before.before.before in
-    let r = k.before.before.before in
-    let q = r.before.before.before in
+    let d = (goal.at.returns c).Else-fourth-gt0 in
+    let e = (goal.at.Else-fourth-gt0 d).Else-third-eq0 in
+    let k = (goal.at.Else-third-eq0 e).After-knot-two in
+    let r = (goal.at.After-knot-two k).Else-second-eq0 in
+    let q = (goal.at.Else-second-eq0 r).Else-first-eq0 in
     c.with_slope.ensures
     ∙ rw (pair k, c.of.ensures, c.until-3.ensures)
-    (three_words _ q.past-first.ensures q.if-first-eq0.false (second r.before) r.if-second-eq0.false (third e.before) e.if-third-eq0.false (fourth d.before) d.if-fourth-gt0.false)
+    (three_words _ q.past-first.ensures q.if-first-eq0.false (second (goal.at.Else-second-eq0 r).After-past-second) r.if-second-eq0.false (third (goal.at.Else-third-eq0 e).After-past-third) e.if-third-eq0.false (fourth (goal.at.Else-fourth-gt0 d).After-past-fourth) d.if-fourth-gt0.false)

@@ -14,6 +14,7 @@ use Rattle.text.specs.declared.Line.{Line}
 use Rattle.text.specs.contracts.Line.{the_type}
 use Rattle.text.specs.declared.Line.TheVariants.{Empty, Knot, Sloped, Hole, Log, SlopedLog, Refused}
 use Rattle.text.proofs.Line.with_slope.Goals as goal
+use Rattle.text.proofs.Line.with_slope.Goals.{In-Knot-2}
 
 -- what is neither a knot nor a hole nor a log's stays; its key among the variants tells which it is
 stays : (m : Signed) (l : Line) → OneOf (0 ∷ 2 ∷ 5 ∷ []) (tag_of the_type l) → l ≡ with_slope l m
@@ -29,7 +30,7 @@ stays m (Refused wrong) k = refl
 pub returns-in-Told : goal.returns-in-Told
 unfolding with_slope
 returns-in-Told c =
-    let l = c.before.before.before.before in
+    let l = (goal.at.returns-in-Told c).In-Knot-2 in
     let n = c.number-1.given in
     let y = passed w16 l.in-Knot.y c.known_told-1.given.1.0.1 in
     rw (l.in-Knot.is, n.1, passed w32 n.0.0 c.known_told-in-Knot-1.given.0.1) (ap (λ y. Sloped l.in-Knot.x y n.0.0) y)

@@ -10,7 +10,7 @@ use Rattle.text.specs.Sheet.{sheet}
 use Rattle.split.specs.declared.Mark.TheVariants.{LineEnd}
 use Rattle.text.proofs.Readings.{going, wrong, full, Reading, reading_starts, reading_stops, reading_ends, reading_goes_on}
 use Rattle.text.proofs.Sheet.read.Goals as goal
-use Rattle.text.proofs.Sheet.read.Goals.{After-taken-sheet}
+use Rattle.text.proofs.Sheet.read.Goals.{After-taken-sheet, Then-at-text}
 
 pub returns-then-text-gt-LONGEST : goal.returns-then-text-gt-LONGEST
 unfolding sheet
@@ -30,7 +30,7 @@ next : (c : After-taken-sheet)
     (c.loop-sheet.line + 1)
     (c.loop-sheet.at + length c.until-found.result.now + 1)
 next c =
-    let q = c.before.before.before.before in
+    let q = (goal.at.After-taken-sheet c).Then-at-text in
     let l = q.loop-sheet in
     let f = c.until-found.ensures ∙ ap (until LineEnd) c.from.ensures in
     rw (c.taken-sheet.ensures, c.of.ensures, f)

@@ -10,7 +10,7 @@ use Rattle.split.specs.declared.Mark.TheVariants.{LineEnd}
 use Rattle.values.specs.Values.{values}
 use Rattle.values.proofs.Reading.{Reading, reading_starts, reading_ends, reading_goes_on}
 use Rattle.values.proofs.Values.read.Goals as goal
-use Rattle.values.proofs.Values.read.Goals.{After-with_words-values}
+use Rattle.values.proofs.Values.read.Goals.{After-until-found, After-with_words-values}
 
 pub returns-then-text-gt-LONGEST : goal.returns-then-text-gt-LONGEST
 unfolding values
@@ -27,7 +27,7 @@ next : (c : After-with_words-values)
     (c.loop-at.line + 1)
     (c.loop-at.at + length c.until-found.result.now + 1)
 next c =
-    let u = c.before.before in
+    let u = (goal.at.After-with_words-values c).After-until-found in
     let f = u.until-found.ensures ∙ ap (until LineEnd) u.from.ensures in
     rw (c.with_words-values.ensures, c.until.ensures, f) (reading_goes_on u.loop-at.invariant (omega arith))
 

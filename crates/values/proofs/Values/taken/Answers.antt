@@ -4,11 +4,12 @@ use borrow.Author.Rules.{rules}
 use Rattle.little_endian.proofs.Signs.{passed}
 use Rattle.values.specs.Values.{taken}
 use Rattle.values.proofs.Values.taken.Goals as goal
+use Rattle.values.proofs.Values.taken.Goals.{In-Given-2}
 
 pub returns-in-Given : goal.returns-in-Given
 unfolding taken
 returns-in-Given c =
-    let q = c.before.before in
+    let q = (goal.at.returns-in-Given c).In-Given-2 in
     rw q.in-Given.is (rw (passed w16 q.in-Given.value c.known_told-1.given.0.1) at c.with_value.ensures)
 
 pub returns-in-Hole : goal.returns-in-Hole

@@ -3,6 +3,7 @@
 use borrow.Author.Rules.{rules}
 use Rattle.weight_sheet.proofs.Sheet.{rule}
 use Rattle.weight_sheet.proofs.Row.of.Goals as goal
+use Rattle.weight_sheet.proofs.Row.of.Goals.{Start}
 
 pub returns : goal.returns
-returns c = let d = c.before.before.before in rule d.args.i d.requires
+returns c = let d = (goal.at.returns c).Start in rule d.args.i d.requires

@@ -19,10 +19,10 @@ arm : (c : Start) {w : Weights} {q : Quantity} → w ≡ weigh q (to_z w64 (of_z
 arm c {w} {q} e p = gives (minute_in c.requires) (h ∷ t ∷ []) (λ h t. w ≡ weigh q h t) tt e ∙ ap (λ q. weigh q c.args.h c.args.t) (sym p)
 
 pub returns-in-Value : goal.returns-in-Value
-returns-in-Value c = arm c.before.before.before c.of_value.ensures c.in-Value.is
+returns-in-Value c = arm (goal.at.returns-in-Value c).Start c.of_value.ensures c.in-Value.is
 
 pub returns-in-Slope : goal.returns-in-Slope
-returns-in-Slope c = arm c.before.before.before c.of_slope.ensures c.in-Slope.is
+returns-in-Slope c = arm (goal.at.returns-in-Slope c).Start c.of_slope.ensures c.in-Slope.is
 
 pub returns-in-Curvature : goal.returns-in-Curvature
-returns-in-Curvature c = arm c.before.before.before c.of_curvature.ensures c.in-Curvature.is
+returns-in-Curvature c = arm (goal.at.returns-in-Curvature c).Start c.of_curvature.ensures c.in-Curvature.is

@@ -22,7 +22,7 @@ use Rattle.weights.specs.declared.Quantity.TheVariants.{Value}
 use Rattle.weights.specs.Weights.{weigh}
 use Rattle.weights.proofs.OffSheet.{off_sheet}
 use Rattle.weights.proofs.Weights.of_value.Goals as goal
-use Rattle.weights.proofs.Weights.of_value.Goals.{After-struct_told-1, In-There-2}
+use Rattle.weights.proofs.Weights.of_value.Goals.{After-of, After-struct_told-1, In-There, Start}
 
 -- a number of minutes keeps its value without a sign
 unsigned : {z : ℤ} → pos 0 ≤ℤ z → z ≤ℤ pos widest → T (non_neg z) × Fits w64 (nat_abs z)
@@ -38,7 +38,7 @@ pub overflow_cast-t : goal.overflow_cast-t
 overflow_cast-t c = asks (minute_in c.requires) (t ∷ []) (λ z. T (non_neg z) × Fits w64 (nat_abs z)) tt (unsigned c.requires.from (≤ℤ_trans c.requires.to c.requires.narrow))
 
 -- the row that is found, whose numbers have 32 bits
-abbrev row : In-There-2 → Row
+abbrev row : In-There → Row
 row c = c.in-There.row
 
 record Narrow (r : Row) : Type 0 where
@@ -46,18 +46,18 @@ record Narrow (r : Row) : Type 0 where
   slope : SFits w32 r.slope
   curvature : SFits w32 r.curvature
 
-narrow : (c : After-struct_told-1) → Narrow (row c.before.before.before)
+narrow : (c : After-struct_told-1) → Narrow (row (goal.at.After-struct_told-1 c).In-There)
 narrow c = let g = c.struct_told-1.given in record { ordinate = record { sfits = g.0.1 }; slope = record { sfits = g.1.0.1 }; curvature = record { sfits = g.1.1.0.1 } }
 
-taken : (c : In-There-2) → (let a = c.args in There (row c) ≡ found (nat_abs a.h) (nat_abs a.t))
+taken : (c : In-There) → (let a = c.args in There (row c) ≡ found (nat_abs a.h) (nat_abs a.t))
 taken c =
-    let d = c.before.before in
+    let d = (goal.at.In-There c).After-of in
     sym c.in-There.is ∙ gives (minute_in d.requires) (h ∷ t ∷ []) (λ h t. d.of.result ≡ found (nat_abs h) (nat_abs t)) tt d.of.ensures
 
 pub returns-in-There : goal.returns-in-There
 returns-in-There c =
-    let told = c.before.before.before.before in
-    let r = told.before.before.before in
+    let told = (goal.at.returns-in-There c).After-struct_told-1 in
+    let r = (goal.at.After-struct_told-1 told).In-There in
     let g = r.requires in
     let n = narrow told in
     (λ i.
@@ -70,14 +70,14 @@ returns-in-There c =
 
 pub returns-in-Nothing : goal.returns-in-Nothing
 returns-in-Nothing c =
-    let d = c.before.before.before.before in
+    let d = (goal.at.returns-in-Nothing c).Start in
     gives (minute_in d.requires) (h ∷ t ∷ []) (λ h t. c.by_formula.result ≡ weigh Value h t) tt c.by_formula.ensures
 
 pub overflow_cast-result : goal.overflow_cast-result
 overflow_cast-result c = widened_fits w64 (narrow c).ordinate (omega arith)
 
 pub overflow_cast-result-in-There : goal.overflow_cast-result-in-There
-overflow_cast-result-in-There c = widened_fits w64 (narrow c.before.before).slope (omega arith)
+overflow_cast-result-in-There c = widened_fits w64 (narrow (goal.at.overflow_cast-result-in-There c).After-struct_told-1).slope (omega arith)
 
 pub overflow_cast-result-in-There-2 : goal.overflow_cast-result-in-There-2
-overflow_cast-result-in-There-2 c = widened_fits w64 (narrow c.before.before.before.before).curvature (omega arith)
+overflow_cast-result-in-There-2 c = widened_fits w64 (narrow (goal.at.overflow_cast-result-in-There-2 c).After-struct_told-1).curvature (omega arith)

@@ -6,10 +6,11 @@ use mir.Val.{SFits}
 use mir.Facts.{to_z-of_z}
 use Rattle.listing.proofs.Lengths.{length_counted_line}
 use Rattle.workbench.proofs.cards.print_reading.Goals as goal
+use Rattle.workbench.proofs.cards.print_reading.Goals.{Start}
 
 pub counted_line-n-requires : goal.counted_line-n-requires
 counted_line-n-requires c =
-    let a = c.before.before.before.before.before in
+    let a = (goal.at.counted_line-n-requires c).Start in
     let r = a.args.reading in
     let value : SFits w32 r.value = record { sfits = c.struct_told-1.given.1.1.0.1 } in
     let slope : SFits w32 r.slope = record { sfits = c.struct_told-2-1.given.1.1.1.0.1 } in
