@@ -110,6 +110,15 @@ fn cases() -> Vec<Case> {
     };
     let less = |local: usize, a: &str, b: &str| set(local, &op2("(lt unsigned)", a, b));
     let plus = |n: u32| set(0, &op2("(add unsigned)", &copy(0), &format!("(int 32 {n})")));
+    let truths = |op: &str| {
+        let is = |local: usize, a: &str| set(local, &op2("eq", a, "(int 32 1)"));
+        vec![
+            is(3, &x),
+            is(4, &y),
+            set(5, &op2(op, &copy(3), &copy(4))),
+            format!("(if {} {} {})", copy(5), set(0, &of("(int 32 1)")), set(0, &of("(int 32 0)"))),
+        ]
+    };
     let two_blocks = || {
         let inner = seq(&[less(3, &x, &y), format!("(if {} (exit 1) skip)", copy(3)), plus(10)]);
         vec![set(0, &of("(int 32 1)")), format!("(block {})", seq(&[format!("(block {inner})"), plus(100)]))]
@@ -232,6 +241,13 @@ fn cases() -> Vec<Case> {
             (7, 7),
             1,
         ),
+        // bit by bit, of numbers and of truths
+        case("bits_of_both", &[], vec![set(0, &op2("and", &x, &y))], (12, 10), 8),
+        case("bits_of_either", &[], vec![set(0, &op2("or", &x, &y))], (12, 10), 14),
+        case("both_truths", &["tyBool", "tyBool", "tyBool"], truths("and"), (0, 1), 0),
+        case("either_truth", &["tyBool", "tyBool", "tyBool"], truths("or"), (0, 1), 1),
+        case("trailing_zeros", &[], vec![set(0, &format!("(op1 trailingZeros {x})"))], (24, 0), 3),
+        case("trailing_zeros_of_none", &[], vec![set(0, &format!("(op1 trailingZeros {x})"))], (0, 0), 32),
         // 0 / 0 differs from itself
         case(
             "not_a_number",
