@@ -10,6 +10,7 @@ void rattle_main(int argc, char **argv);
 uint64_t rattle_arg_count(void);
 int64_t rattle_arg(uint64_t i, void *buffer, size_t length);
 int32_t rattle_open(const void *path, int32_t flags, uint32_t mode);
+int32_t rattle_flock(int32_t fd, int32_t how);
 int32_t rattle_open_to_read(const void *path);
 int32_t rattle_open_new(const void *path, uint32_t mode);
 int32_t rattle_errno(void);
@@ -63,6 +64,15 @@ int32_t rattle_open(const void *path, int32_t flags, uint32_t mode)
         return -1;
     }
     return open(path, own, (mode_t)mode);
+}
+
+/* What `std` does with a file is one function there, and a lock is among it. The program asks for none. */
+int32_t rattle_flock(int32_t fd, int32_t how)
+{
+    (void)fd;
+    (void)how;
+    errno = ENOLCK;
+    return -1;
 }
 
 /* The same two ways, as the workbench.c that the older kit's proof gave asks for them. */

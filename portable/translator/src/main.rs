@@ -159,8 +159,11 @@ fn table(types: &Types, name: &str, value: &Expr, t: &Ty) -> String {
     }
 }
 
-/// An array's elements, some in a line.
+/// An array's elements, some in a line. One without any has one that nothing reads.
 fn in_lines(parts: Vec<String>) -> String {
+    if parts.is_empty() {
+        return "{{0}}".into();
+    }
     let (mut text, mut width) = ("{{".to_string(), 200);
     for part in parts {
         if width + part.len() + 2 > 108 {
@@ -267,11 +270,7 @@ fn translate() {
         out.bodies += &exported(&out.types, symbol, &p.functions[symbol], prototype);
     }
     if header.is_none() {
-        // what main answers would tell how the program ends
-        if !out.types.empty(&p.functions[&p.main].locals[0]) {
-            fail::<()>("a main that answers something", &p.main)
-        }
-        out.bodies += &main_of(&p.main, reached.contains("os::c::rattle_arg"));
+        out.bodies += &main_of(&out.types, &p.main, &p.functions[&p.main].locals[0], reached.contains("os::c::rattle_arg"));
     }
 
     let what = if header.is_some() { krate } else { p.main.split("::").next().unwrap_or("").to_string() };
