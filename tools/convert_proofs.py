@@ -177,6 +177,7 @@ def convert(crate, folder, entry, module):
         args = []
     else:
         args = groups(m[1])
+    opened_all = "".join(it + "\n" for it in re.findall(r"(?m)^unfolding .*$", spec))
     decls.remove(spec)
 
     # declarations by name
@@ -260,8 +261,12 @@ def convert(crate, folder, entry, module):
         lines = [l for l in decl.split("\n") if not l.startswith("--")]
         code = "\n".join(lines)
         m = re.match(r"(?:(?:abbrev|unfoldable|pub) )*(" + W + r")\s*:\s(.*?)\n(?=\S)(.*)", code, re.S)
-        if not m:
+        if not m or code.startswith("module "):
             for it in re.finditer(r"\((" + W + r")\s*:\s*tie\.(" + W + r")", code):
+                p = norm(it[2])
+                if p in fn.places:
+                    env[it[1]] = p
+            for it in re.finditer(r"(?m)^  (?:abbrev )?(" + W + r")\s*:\s*tie\.(" + W + r")", code):
                 p = norm(it[2])
                 if p in fn.places:
                     env[it[1]] = p
@@ -372,9 +377,9 @@ def convert(crate, folder, entry, module):
                 continue
             vs = [v for v in vs if v != "κs"]
             inner = paths(inner, {vs[0]: fn.place_of_need(i)}, {vs[0]: goal})
-            answers.append(f"pub {goal} : goal.{goal}\n{goal} {' '.join(vs)} = {types(inner)}")
+            answers.append(f"pub {goal} : goal.{goal}\n{opened_all}{goal} {' '.join(vs)} = {types(inner)}")
         else:
-            answers.append(f"pub {goal} : goal.{goal}\n{goal} = {types(body)}")
+            answers.append(f"pub {goal} : goal.{goal}\n{opened_all}{goal} = {types(body)}")
     for d in decls:
         if d in moved:
             continue

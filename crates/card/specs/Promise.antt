@@ -1,7 +1,7 @@
 -- What the reader leaves its caller: its answer, and the four lent lists at exit. Document 01, "Numbers of
 -- refusal": "Card into lent lists: 3, the card's, 26." Assumes nothing.
 use Rattle.std.specs.Prelude.{◌≡◌, ℕ, List, ℤ, length}
-use Rattle.std.specs.Borrow.{Bor}
+use Rattle.std.specs.Borrow.{MutBor}
 use Rattle.answer.specs.Answer.{Verdict}
 use Rattle.answer.specs.Lent.{lent_after}
 use Rattle.curve.specs.Card.{knots}
@@ -19,7 +19,7 @@ pub record Lists : Type 0 where
   pub curvatures : List ℤ
 
 -- what is behind four parameters
-abbrev pub lists : Bor (List ℕ) → (ys ms Ms : Bor (List ℤ)) → Lists
+abbrev pub lists : MutBor (List ℕ) → (ys ms Ms : MutBor (List ℤ)) → Lists
 lists xs ys ms Ms = record { minutes = xs.now; ordinates = ys.now; slopes = ms.now; curvatures = Ms.now }
 
 -- of the lists at entry, and the card's bytes

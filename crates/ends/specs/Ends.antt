@@ -1,8 +1,8 @@
 -- Document 01, "The curve and its card" and number 7: the ends of a fit, by kind or by code number, and the numbers given for them.
 -- Assumes nothing.
-use Rattle.std.specs.Prelude.{ℕ, ◌-◌, ◌≡◌, refl, Bool, not, ◌||◌, cond, false, eqb, pos, Float}
+use Rattle.std.specs.Prelude.{ℕ, ◌-◌, Bool, not, ◌||◌, cond, false, eqb, pos, Float}
 use Rattle.std.specs.Float.{binary64}
-use Rattle.std.specs.Float.Ieee.{of_bits, of_int, neg, lt}
+use Rattle.std.specs.Float.Ieee.{of_bits, neg, lt}
 use Rattle.answer.specs.Answer.{Verdict, ◌then◌, refuse}
 use Rattle.knots.specs.Kinds.{most_given}
 use Rattle.rows.specs.declared.End.{End}
@@ -19,11 +19,6 @@ end_by number slope curvature = cond (eqb number 1) (Both slope curvature) (cond
 
 abbrev pub f256 : Float
 f256 = of_bits binary64 0x4070_0000_0000_0000
-
--- the pattern is the limit's
-pub is_limit : f256 ≡ of_int binary64 (pos most_given)
-unfolding of_bits of_int
-is_limit = refl
 
 -- "NaN, infinite or beyond ±256"
 abbrev pub unfit : Float → Bool

@@ -1,3 +1,4 @@
 pub mod Zeros
 pub mod ThirdRow
 pub mod Examples
+pub mod Patterns

@@ -1,7 +1,7 @@
 -- Document 02, order 8, "Values with measured slopes": a knot's one equation, the third-derivative row with
 -- the given slopes moved to the right side, over any numbers and in binary64; and its elimination, "document
 -- 01's with one number per knot". Assumes nothing.
-use Rattle.std.specs.Prelude.{ℕ, ◌≡◌, refl, Bool, cond, ℤ, pos, Float}
+use Rattle.std.specs.Prelude.{ℕ, Bool, cond, ℤ, pos, Float}
 use Rattle.std.specs.Float.{binary64}
 use Rattle.std.specs.Float.Ieee.{of_bits, of_int}
 use Rattle.coefficients.specs.Coefficients.{Arithmetic}
@@ -19,11 +19,6 @@ use Rattle.lines.specs.declared.Line.{Line}
 -- how many card units a hundredth has
 abbrev pub f4096 : Float
 f4096 = of_bits binary64 0x40b0_0000_0000_0000
-
--- the pattern is that number
-pub is_units : f4096 ≡ of_int binary64 (pos 4096)
-unfolding of_bits of_int
-is_units = refl
 
 -- "each slope becomes the float m/4096": hundredths per minute (squared, for a curvature)
 abbrev pub hundredths : ℤ → Float

@@ -258,10 +258,10 @@ pub fn mend<'a>(
 
 // ---- the list
 
-// A plan's first n changes to the front of a list: walked by hand, since no list of structs is covered.
+// A plan's first n changes to the front of a list.
 pub fn fill(list: &mut [Change], n: usize, plan: Plan)
-    requires { (n ≤ length list.now) × (n ≤ most) }
-    ensures { list.exit.now ≡ over (planned plan) n list.entry.now }
+    requires { (n ≤ length list.old) × (n ≤ most) }
+    ensures { list.new ≡ over (planned plan) n list.old }
 {
     let mut j: usize = 0;
     while j < n {

@@ -196,7 +196,7 @@ use Rattle.mend.proofs.Plan.unchanged.Reads as plan-unchanged
 use Rattle.mend.proofs.Plan.len.Reads as plan-len
 use Rattle.mend.proofs.Plan.answer.Reads as plan-answer
 use Rattle.mend.proofs.mend.Reads as mend
-use Rattle.mend.proofs.FillReads as fill
+use Rattle.mend.proofs.fill.Reads as fill
 use Rattle.moves.proofs.slide.Reads as slide
 use Rattle.moves.proofs.copy_in.Reads as copy-in
 use Rattle.book.specs.Book.{Entry}

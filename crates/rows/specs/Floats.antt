@@ -1,10 +1,10 @@
 -- The operations and the numbers of document 01's "The elimination, rounded once per operation". Assumes nothing.
--- A number is written by its bit pattern, as the code has it; `numbers` computes that each pattern is the number of the exact equations.
-use Rattle.std.specs.Prelude.{◌≡◌, refl, map, Float}
+-- A number is written by its bit pattern, as the code has it; `numbers` of `proofs/Patterns` computes that each pattern is the number of the exact equations.
+use Rattle.std.specs.Prelude.{Float}
 use Rattle.std.specs.Float.Ieee as Ieee
 use Rattle.std.specs.Float.{binary64}
-use Rattle.std.specs.Float.Ieee.{of_bits, of_int, neg}
-use Rattle.coefficients.specs.Coefficients.{Arithmetic, exact, listed}
+use Rattle.std.specs.Float.Ieee.{of_bits, neg}
+use Rattle.coefficients.specs.Coefficients.{Arithmetic}
 
 infixl 60 ◌⊕◌
 infixl 60 ◌⊖◌
@@ -67,7 +67,3 @@ floats =
       n64 = f64;
       n120 = f120;
     }
-
-pub numbers : listed floats ≡ map (of_int binary64) (listed exact)
-unfolding of_bits of_int
-numbers = refl

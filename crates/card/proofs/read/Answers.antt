@@ -63,4 +63,4 @@ pub returns : goal.returns
 returns c =
     let i = (goal.at.returns c).After-into-verdict in
     let e = ap verdict_of c.in_default.is in
-    reads_given (lent i) (bytes i) (answered i c.of-2.ensures) (sym (verdict_is i) ∙ e) (holds i e) c.give.ensures
+    reads_given (lent i) (bytes i) (answered i c.of-2.ensures) (sym (verdict_is i) ∙ e) (holds i e) (let g = c.give.ensures in (g.minutes_after, (g.ordinates_after, (g.slopes_after, g.curvatures_after))))

@@ -34,10 +34,10 @@ loop-row-preserved c =
     let y = passed w16 (get_or k.ordinates i (pos 0)) e.put_knot-arg-in-loop-row-1.given in
     let m = passed w32 (get_or k.slopes i (pos 0)) e.put_knot-arg-in-loop-row-2-1.given in
     let M = passed w32 (get_or k.curvatures i (pos 0)) e.put_knot-arg-in-loop-row-3-1.given in
-    let q : e.put_knot.new.0 ≡ sets l.loop-row.buffer (start i) (knot_row k i) = rw (y, m, M) at e.put_knot.ensures in (
+    let q : e.put_knot.new.buffer ≡ sets l.loop-row.buffer (start i) (knot_row k i) = rw (y, m, M) at e.put_knot.ensures in (
       omega arith,
       omega arith,
-      rw (rows_more (knot_row k) i) (then l.put_head.new.0 10 (rows (knot_row k) 0 i) (knot_row k i) (16 * i) (length_knots k i) l.loop-row.invariant.2 q),
+      rw (rows_more (knot_row k) i) (then l.put_head.new.buffer 10 (rows (knot_row k) 0 i) (knot_row k i) (16 * i) (length_knots k i) l.loop-row.invariant.2 q),
     )
 
 pub returns : goal.returns
@@ -49,6 +49,6 @@ returns c =
     let k = lent a.minutes.now a.ordinates.now a.slopes.now a.curvatures.now a.left a.right in
     let e : l.loop-row.row ≡ n = omega arith in
     let h = l.put_head in
-    let p : l.loop-row.buffer ≡ sets h.new.0 10 (rows (knot_row k) 0 n) = rw e at l.loop-row.invariant.2 in
+    let p : l.loop-row.buffer ≡ sets h.new.buffer 10 (rows (knot_row k) 0 n) = rw e at l.loop-row.invariant.2 in
     then a.buffer.now 0 (head_bytes a.kind.head n a.left a.right) (rows (knot_row k) 0 n ++ end_bytes) 10 (length_head a.kind.head n a.left a.right) h.ensures
-    (then h.new.0 10 (rows (knot_row k) 0 n) end_bytes (16 * n) (length_knots k n) p c.put_end.ensures)
+    (then h.new.buffer 10 (rows (knot_row k) 0 n) end_bytes (16 * n) (length_knots k n) p c.put_end.ensures)

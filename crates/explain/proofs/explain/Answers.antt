@@ -29,8 +29,7 @@ returns-in-Accepted c =
     let e = (goal.at.returns-in-Accepted c).In-Accepted in
     let b = e.by_head-opened in
     let a = e.args in
-    let s = a.card.now in
-    (c.off.ensures.0 (kind_by s) ∙ ap (λ card. explained (kind_by s) accepted card a.minute) (accepted_holds b.ensures (accepts e)).is ∙ accepted_explained (kind_by s) (card_of s) a.minute (accepts e), c.off.ensures.1)
+    let s = a.card.now in record { value = c.off.ensures.0 (kind_by s) ∙ ap (λ card. explained (kind_by s) accepted card a.minute) (accepted_holds b.ensures (accepts e)).is ∙ accepted_explained (kind_by s) (card_of s) a.minute (accepts e); fits = c.off.ensures.1 }
 
 -- ---- refused with 10
 
@@ -46,7 +45,7 @@ why-requires c =
 pub returns-then-number-eq10 : goal.returns-then-number-eq10
 unfolding explain
 returns-then-number-eq10 c =
-    let t = (goal.at.returns-then-number-eq10 c).Then-number-eq10 in
+    let told = (let t = (goal.at.returns-then-number-eq10 c).Then-number-eq10 in
     let v = (goal.at.Then-number-eq10 t).In-Refused-2 in
     let b = v.by_head-opened in
     let a = v.args in
@@ -56,16 +55,16 @@ returns-then-number-eq10 c =
           ∙ ap₂ (λ K card. reason K card p) (opened_kind b.ensures) (jumped_readable b.ensures (jumped t)).2.is
           ∙ ten_explained (kind_by s) (card_of s) a.minute (jumped t),
       subst (λ e. sizes e < 2 ^ 63) (sym c.why.ensures) (reason_sizes _ _ p),
-    )
+    )) in record { value = told.0; fits = told.1 }
 
 -- ---- refused otherwise
 
 pub returns-else-number-eq10 : goal.returns-else-number-eq10
 unfolding explain sizes
 returns-else-number-eq10 c =
-    let v = (goal.at.returns-else-number-eq10 c).In-Refused-2 in
+    let told = (let v = (goal.at.returns-else-number-eq10 c).In-Refused-2 in
     let a = v.args in
     let s = a.card.now in (
       c.refused.ensures ∙ other_explained (kind_by s) (card_of s) a.minute c.if-number-eq10.false (step_refused v.by_head-opened.ensures.judged v.in-Refused.is),
       rw c.refused.ensures (omega arith),
-    )
+    )) in record { value = told.0; fits = told.1 }

@@ -37,16 +37,16 @@ record Handed (q h q' h' : ℤ) (b k a b' k' a' : Knot) : Type 0 where
 
 module _ {q h q' h' : ℤ} {b k a b' k' a' : Knot} (e : Handed q h q' h' b k a b' k' a') where
   beside_same : Beside q' h' b' k' a' → Beside q h b k a
-  beside_same w = rw (e.q-is, e.h_is, e.before-is, e.here-is, e.after_is) w
+  beside_same w = rw (e.q_is, e.h_is, e.before_is, e.here_is, e.after_is) w
 
   jump_same : (o : Order) → jump_of o q h b k a ≡ jump_of o q' h' b' k' a'
-  jump_same o = rw (e.q-is, e.h_is, e.before-is, e.here-is, e.after_is)
+  jump_same o = rw (e.q_is, e.h_is, e.before_is, e.here_is, e.after_is)
 
   allowed_same : {s s' : ℤ} → s ≡ s' → nat_abs s' ≤ 2 ^ 8 → Beside q' h' b' k' a' → Allowed s q h
-  allowed_same f l w = rw (f, e.q-is, e.h_is) (record { q_gap = q_gap w; h_gap = h_gap w; square_in = l })
+  allowed_same f l w = rw (f, e.q_is, e.h_is) (record { q_gap = q_gap w; h_gap = h_gap w; square_in = l })
 
   leeways_same : {s s' : ℤ} (o : Order) → s ≡ s' → leeways o s q h ≡ leeways o s' q' h'
-  leeways_same o f = rw (f, e.q-is, e.h_is)
+  leeways_same o f = rw (f, e.q_is, e.h_is)
 
 abbrev start : After-right_gap-h → Start
 start c = (goal.at.After-right_gap-h c).Start

@@ -56,8 +56,8 @@ module _ (c : After-struct_told-2-1) where
 
 pub of-parts-requires : goal.of-parts-requires
 of-parts-requires c =
-    let s = (goal.at.of-parts-requires c).After-struct_told-2-1 in
-    spelt_asks (d s).requires.checked (d s).requires.in_place s.spell_at-spell.ensures (kept_h s) (kept_t s)
+    let told = (let s = (goal.at.of-parts-requires c).After-struct_told-2-1 in
+    spelt_asks (d s).requires.checked (d s).requires.in_place s.spell_at-spell.ensures (kept_h s) (kept_t s)) in record { in_gap = told.0; tame = told.1 }
 
 parts_are : (c : After-of-parts) → (let s = (goal.at.After-of-parts c).After-struct_told-2-1 in c.of-parts.result ≡ parts_from (card s) (d s).args.i (d s).args.minute)
 unfolding parts_from knot gap

@@ -31,19 +31,18 @@ unfolding sizes
 returns-in-Refused c =
     let d = (goal.at.returns-in-Refused c).Start in
     let a = d.args in
-    let e = step_refused c.outside.ensures c.in-Refused.is in
-    (λ K left right. c.refused.ensures ∙ outside_explained K (lent a.xs.now a.ys.now a.ms.now a.cs.now left right) a.minute e, rw c.refused.ensures (omega arith))
+    let e = step_refused c.outside.ensures c.in-Refused.is in record { value = λ K left right. c.refused.ensures ∙ outside_explained K (lent a.xs.now a.ys.now a.ms.now a.cs.now left right) a.minute e; fits = rw c.refused.ensures (omega arith) }
 
 pub returns-in-Accepted : goal.returns-in-Accepted
 unfolding parted parts_from knot
 returns-in-Accepted c =
-    let d = start (goal.at.returns-in-Accepted c).In-Accepted in
+    let told = (let d = start (goal.at.returns-in-Accepted c).In-Accepted in
     let a = d.args in (
       λ K left right.
           let card = lent a.xs.now a.ys.now a.ms.now a.cs.now left right in
           c.parted.ensures.0 ∙ ap (λ i. parted card i a.minute) (left_is (goal.at.returns-in-Accepted c).After-find-gap).0 ∙ inside_explained K card a.minute (inside (goal.at.returns-in-Accepted c).In-Accepted),
       c.parted.ensures.1,
-    )
+    )) in record { value = told.0; fits = told.1 }
 
 pub parted-requires : goal.parted-requires
 parted-requires c =

@@ -18,8 +18,8 @@ unfolding standing
 stood_is c = c.first-stood.ensures ∙ ap₂ (λ v w. v then w) c.stand.ensures c.given_ends.ensures
 
 pub solve-requires : goal.solve-requires
-solve-requires c = let s =
-    (goal.at.solve-requires c).Start in record { alike = s.requires; minutes_value = stood_first _ _ _ _ (step_accepts (stood_is (goal.at.solve-requires c).After-first-stood) c.in-Accepted.is) }
+solve-requires c =
+    let s = (goal.at.solve-requires c).Start in record { alike = s.requires; minutes_value = stood_first _ _ _ _ (step_accepts (stood_is (goal.at.solve-requires c).After-first-stood) c.in-Accepted.is) }
 
 pub returns-in-Accepted : goal.returns-in-Accepted
 returns-in-Accepted c = fits_along (step_passes _ (stood_is (goal.at.returns-in-Accepted c).After-first-stood) c.in-Accepted.is refl) c.solve.ensures

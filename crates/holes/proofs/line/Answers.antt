@@ -41,12 +41,12 @@ handed c =
 pub weighed-sum-requires : goal.weighed-sum-requires
 weighed-sum-requires c =
     let h = handed c in
-    rw (h.y-is, h.u-is, h.z-is, h.v-is) ((c.requires.y_in, c.requires.z_in), (c.requires.u_in, c.requires.v_in))
+    rw (h.y_is, h.u_is, h.z_is, h.v_is) (record { y_bound = (c.requires.y_in, c.requires.z_in); u_bound = (c.requires.u_in, c.requires.v_in) })
 
 sum_is : (c : After-weighed-sum) → (let a = c.args in c.weighed-sum.result ≡ a.y *ℤ pos a.u +ℤ a.z *ℤ pos a.v)
 sum_is c =
     let h = handed (goal.at.After-weighed-sum c).Start in
-    rw (h.y-is, h.u-is, h.z-is, h.v-is) at c.weighed-sum.ensures
+    rw (h.y_is, h.u_is, h.z_is, h.v_is) at c.weighed-sum.ensures
 
 sum_kept : (c : After-weighed-sum) → to_z w64 (of_z w64 c.weighed-sum.result) ≡ c.weighed-sum.result
 sum_kept c = to_z-of_z {w = w64} (record { sfits = c.weighed-sum.type_inv })

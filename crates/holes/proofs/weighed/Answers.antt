@@ -16,7 +16,7 @@ abbrev tops : List Iv
 tops = ± quintic.ordinates ∷ ± 65535 ∷ ± quintic.ordinates ∷ ± 65535 ∷ []
 
 within : (c : Start) → In w64 (args c) tops
-within c = let r = c.requires in record { each = (∈_abs r.0.0, (∈_abs r.1.0, (∈_abs r.0.1, (∈_abs r.1.1, tt)))) }
+within c = let r = c.requires in record { each = (∈_abs r.y_bound.0, (∈_abs r.u_bound.0, (∈_abs r.y_bound.1, (∈_abs r.u_bound.1, tt)))) }
 
 pub overflow_mul-result : goal.overflow_mul-result
 unfolding quintic

@@ -48,17 +48,17 @@ record Handed (h h' : ℤ) (a b a' b' : Knot) : Type 0 where
 
 module _ {h h' : ℤ} {a b a' b' : Knot} (e : Handed h h' a b a' b') where
   asks_same : InGap h' h' → Tame h' a' b' → (InGap h h) × (Tame h a b)
-  asks_same g w = rw (e.h_is, e.a-is, e.b-is) (g, w)
+  asks_same g w = rw (e.h_is, e.a_is, e.b_is) (g, w)
 
   laid_same : laid h a b ≡ laid h' a' b'
-  laid_same = rw (e.h_is, e.a-is, e.b-is)
+  laid_same = rw (e.h_is, e.a_is, e.b_is)
 
 handed : (c : After-knot_at-b) → (let d = start c in Handed (to_z w64 (h d)) (pos (h d)) c.knot_at-a.result c.knot_at-b.result (numbers d d.args.i) (numbers d (d.args.i + 1)))
 handed c = record { h_is = to_z_pos w64 (small (goal.at.After-knot_at-b c).After-shared_slice_known-3-1); a_is = c.knot_at-a.ensures; b_is = c.knot_at-b.ensures }
 
 pub of-requires : goal.of-requires
-of-requires c = let d =
-    let t = start c in asks_same (handed c) (settled_minute d.requires.checked d.args.i (next d) (last d)) (settled_gap d.requires.checked d.args.i (next d) (last d)) in record { in_gap = t.0; tame = t.1 }
+of-requires c =
+    let told = (let d = start c in asks_same (handed c) (settled_minute d.requires.checked d.args.i (next d) (last d)) (settled_gap d.requires.checked d.args.i (next d) (last d))) in record { in_gap = told.0; tame = told.1 }
 
 pub returns : goal.returns
 returns c = c.of.ensures ∙ laid_same (handed (goal.at.returns c).After-knot_at-b)

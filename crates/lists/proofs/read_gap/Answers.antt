@@ -34,8 +34,8 @@ module _ (c : After-struct_told-2-1) where
 
 pub between-r-requires : goal.between-r-requires
 between-r-requires c =
-    let d = (goal.at.between-r-requires c).Start in
-    spelt_asks d.requires.checked d.requires.in_place c.spell_at-spell.ensures (h_is c) (t_is c)
+    let told = (let d = (goal.at.between-r-requires c).Start in
+    spelt_asks d.requires.checked d.requires.in_place c.spell_at-spell.ensures (h_is c) (t_is c)) in record { in_gap = told.0; tame = told.1 }
 
 abbrev between_of : Spell → Reading
 between_of s = shown (reads (placed 0 s.from) (placed (nat_abs s.h) s.to) (nat_abs s.t))

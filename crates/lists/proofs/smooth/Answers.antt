@@ -126,10 +126,12 @@ pub none-before-requires : goal.none-before-requires
 none-before-requires c = tt
 
 pub spans_at-after-requires : goal.spans_at-after-requires
-spans_at-after-requires c = (c.requires, omega arith)
+spans_at-after-requires c =
+    record { checked = c.requires; i_in_bounds = omega arith }
 
 pub rough_at-number-requires : goal.rough_at-number-requires
-rough_at-number-requires c = (meets c Third, meets c Fourth)
+rough_at-number-requires c =
+    record { meeting = meets c Third; meeting_2 = meets c Fourth }
 
 pub overflow_cast-result : goal.overflow_cast-result
 overflow_cast-result c = omega (arith, (d (goal.at.overflow_cast-result c).After-spans_at-after).requires.long.few)

@@ -31,10 +31,10 @@ record Handed (s h s' h' : ℤ) (a b a' b' : Knot) : Type 0 where
 
 module _ {s h s' h' : ℤ} {a b a' b' : Knot} (e : Handed s h s' h' a b a' b') where
   asks_same : Held h' a' b' → nat_abs s' ≤ 2 ^ 8 → (Held h a b) × (nat_abs s ≤ 2 ^ 8)
-  asks_same g w = rw (e.square-is, e.h_is, e.a-is, e.b-is) (g, w)
+  asks_same g w = rw (e.square_is, e.h_is, e.a_is, e.b_is) (g, w)
 
   spans_same : (asked : Bool) → spans asked s h a b ≡ spans asked s' h' a' b'
-  spans_same asked = rw (e.square-is, e.h_is, e.a-is, e.b-is)
+  spans_same asked = rw (e.square_is, e.h_is, e.a_is, e.b_is)
 
 abbrev start : After-right_gap-h → Start
 start c = (goal.at.After-right_gap-h c).Start
@@ -62,9 +62,9 @@ handed c =
 
 pub of-requires : goal.of-requires
 of-requires c =
-    let t = let d = start c in
+    let told = (let d = start c in
     let low = le_of_lt (small c) in
-    asks_same (handed c) (right_held (settled_knot d.requires.checked d.args.i d.requires.i_in_bounds (square_of d.args.kind Third) low).beside) low in record { held = t.0; square_bound = t.1 }
+    asks_same (handed c) (right_held (settled_knot d.requires.checked d.args.i d.requires.i_in_bounds (square_of d.args.kind Third) low).beside) low) in record { held = told.0; square_bound = told.1 }
 
 pub returns : goal.returns
 returns c = (c.of.ensures ∙ spans_same (handed (goal.at.returns c).After-right_gap-h) (start (goal.at.returns c).After-right_gap-h).args.kind.fourth, small (goal.at.returns c).After-right_gap-h)

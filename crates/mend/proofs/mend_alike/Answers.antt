@@ -14,13 +14,13 @@ use Rattle.mend.proofs.mend_alike.Goals.{After-filled-mended}
 
 pub filled-mended-requires : goal.filled-mended-requires
 filled-mended-requires c =
-    let alike = c.before.before.before.before.before.before.requires in
-    ((omega (arith, alike.many, alike.ordinates), alike.ordinates), fillable alike.ordinates (has_bridges _ _ _ (step_accepts c.mendable.ensures c.enum_told.given.1)))
+    let alike = c.requires in
+    record { ys_len_bound = (omega (arith, alike.many, alike.ordinates), alike.ordinates); fillable = fillable alike.ordinates (has_bridges _ _ _ (step_accepts c.mendable.ensures c.in-Accepted.is)) }
 
-mended_is : (c : After-filled-mended) → (let a = c.before.before.before.before.before.before.before.args in take (length a.ordinates.now) c.filled-mended.result ≡ mended a.minutes.now a.ordinates.now)
+mended_is : (c : After-filled-mended) → (let a = c.args in take (length a.ordinates.now) c.filled-mended.result ≡ mended a.minutes.now a.ordinates.now)
 mended_is c = front_filled _ _ Line c.filled-mended.ensures
 
-length_mended : (c : After-filled-mended) → (let n = length c.before.before.before.before.before.before.before.args.ordinates.now in length (take n c.filled-mended.result) ≡ n)
+length_mended : (c : After-filled-mended) → (let n = length c.args.ordinates.now in length (take n c.filled-mended.result) ≡ n)
 length_mended c = ap length (mended_is c) ∙ length_filled _ _ Line
 
 pub slice_bounds-settle-end : goal.slice_bounds-settle-end
@@ -28,11 +28,11 @@ slice_bounds-settle-end c = sym (length_mended (goal.at.slice_bounds-settle-end 
 
 pub settle-requires : goal.settle-requires
 settle-requires c =
-    let alike = c.before.before.before.before.before.before.before.before.before.before.before.requires in
+    let alike = c.requires in
     (omega (arith, alike.many, alike.ordinates), length_mended (goal.at.settle-requires c).After-filled-mended)
 
 pub returns-in-Accepted : goal.returns-in-Accepted
-returns-in-Accepted c = plans_along (step_passes _ c.mendable.ensures c.enum_told.given.1 refl) (rw (mended_is (goal.at.returns-in-Accepted c).After-filled-mended) at c.settle.ensures)
+returns-in-Accepted c = plans_along (step_passes _ c.mendable.ensures c.in-Accepted.is refl) (rw (mended_is (goal.at.returns-in-Accepted c).After-filled-mended) at c.settle.ensures)
 
 pub returns-in-Refused : goal.returns-in-Refused
 returns-in-Refused c = plans_along (step_refuses _ c.mendable.ensures c.in-Refused.is) (plans_refused c.unchanged.ensures)

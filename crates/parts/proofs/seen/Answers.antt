@@ -42,7 +42,7 @@ returns-in-Slope c =
     (λ i.
     record {
       ordinate = gave w64 (args c) (:neg y) (ordinate c) i;
-      returns-in-Slope = gave w64 (args c) m (record { sfits = c.struct_told-in-Slope-2-1.given.1.0.1 }) i;
+      slope = gave w64 (args c) m (record { sfits = c.struct_told-in-Slope-2-1.given.1.0.1 }) i;
       curvature = gave w64 (args c) (:neg k) (curvature c) i;
     })
     c.in-Slope.is

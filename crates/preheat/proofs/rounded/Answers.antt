@@ -176,14 +176,14 @@ by_a s = asks (within s) (v4 ∷ []) (λ z. T (non_neg z) × Fits w64 (nat_abs z
 pub nearest-f0-requires : goal.nearest-f0-requires
 unfolding quintic
 nearest-f0-requires c =
-    let s = (goal.at.nearest-f0-requires c).Start in
-    asks (within s) (v4 ∷ v5 ∷ []) (λ d n. (0 < nat_abs d) × (nat_abs n < 2 ^ 63)) tt (some s.requires.a_low, omega (arith, unknown_size s s.args.z0 s.requires.z_in))
+    let told = (let s = (goal.at.nearest-f0-requires c).Start in
+    asks (within s) (v4 ∷ v5 ∷ []) (λ d n. (0 < nat_abs d) × (nat_abs n < 2 ^ 63)) tt (some s.requires.a_low, omega (arith, unknown_size s s.args.z0 s.requires.z_in))) in record { d_nonzero = told.0; n_bound = told.1 }
 
 pub nearest-f1-requires : goal.nearest-f1-requires
 unfolding quintic
 nearest-f1-requires c =
-    let s = (goal.at.nearest-f1-requires c).Start in
-    asks (within s) (v4 ∷ v6 ∷ []) (λ d n. (0 < nat_abs d) × (nat_abs n < 2 ^ 63)) tt (some s.requires.a_low, omega (arith, unknown_size s s.args.z1 s.requires.z'_in))
+    let told = (let s = (goal.at.nearest-f1-requires c).Start in
+    asks (within s) (v4 ∷ v6 ∷ []) (λ d n. (0 < nat_abs d) × (nat_abs n < 2 ^ 63)) tt (some s.requires.a_low, omega (arith, unknown_size s s.args.z1 s.requires.z'_in))) in record { d_nonzero = told.0; n_bound = told.1 }
 
 f_is : (c : After-nearest-f0) → (let s = (goal.at.After-nearest-f0 c).Start in c.nearest-f0.result ≡ f s s.args.z0)
 unfolding quintic
@@ -330,15 +330,19 @@ pub overflow_sub-q-2 : goal.overflow_sub-q-2
 overflow_sub-q-2 c = step (for_level c) (v0 :- v1) tt
 
 pub overflow_mul-y0 : goal.overflow_mul-y0
+unfolding quintic
 overflow_mul-y0 c = step (for_level c) (v2 :* (v0 :- v1)) tt
 
 pub overflow_mul-y1 : goal.overflow_mul-y1
+unfolding quintic
 overflow_mul-y1 c = step (for_level c) (v3 :* v1) tt
 
 pub overflow_add-y0 : goal.overflow_add-y0
+unfolding quintic
 overflow_add-y0 c = step (for_level c) (v2 :* (v0 :- v1) :+ v3 :* v1) tt
 
 pub overflow_mul-q-2 : goal.overflow_mul-q-2
+unfolding quintic
 overflow_mul-q-2 c = step (for_level c) lineE tt
 
 pub overflow_mul-q-3 : goal.overflow_mul-q-3

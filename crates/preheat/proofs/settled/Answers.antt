@@ -83,7 +83,8 @@ overflow_cast-twice c = asks (within c) (twice ∷ []) (λ z. T (non_neg z) × F
 
 pub nearest-half-requires : goal.nearest-half-requires
 unfolding quintic
-nearest-half-requires c = asks (within c) (twice ∷ v2 ∷ []) (λ d n. (0 < nat_abs d) × (nat_abs n < 2 ^ 63)) tt (twice_some c, omega (arith, c.requires.level_in))
+nearest-half-requires c =
+    let told = asks (within c) (twice ∷ v2 ∷ []) (λ d n. (0 < nat_abs d) × (nat_abs n < 2 ^ 63)) tt (twice_some c, omega (arith, c.requires.level_in)) in record { d_nonzero = told.0; n_bound = told.1 }
 
 half_is : (c : After-nearest-half) → c.nearest-half.result ≡ b (goal.at.After-nearest-half c).Start
 unfolding quintic
@@ -152,7 +153,7 @@ overflow_cast-a c =
 
 pub nearest-requires : goal.nearest-requires
 nearest-requires c =
-    let t = asks (for_round c) (under ∷ v3 ∷ []) (λ d n. (0 < nat_abs d) × (nat_abs n < 2 ^ 63)) tt (under_some (goal.at.nearest-requires c).Start, omega (arith, n_size c)) in record { d_nonzero = t.0; n_bound = t.1 }
+    let told = asks (for_round c) (under ∷ v3 ∷ []) (λ d n. (0 < nat_abs d) × (nat_abs n < 2 ^ 63)) tt (under_some (goal.at.nearest-requires c).Start, omega (arith, n_size c)) in record { d_nonzero = told.0; n_bound = told.1 }
 
 v_is : (c : After-nearest) → (let s = (goal.at.After-nearest c).Start in c.nearest.result ≡ nearest c.bent-n.result (nat_abs (s.args.a *ℤ s.args.cube)))
 v_is c = gives (for_round (goal.at.After-nearest c).After-bent-n) (v3 ∷ under ∷ []) (λ n d. c.nearest.result ≡ nearest n (nat_abs d)) tt c.nearest.ensures

@@ -40,10 +40,10 @@ module _ (c : In-Accepted-asked) where
   d = (goal.at.In-Accepted-asked c).In-Accepted
 
   abbrev parts : ℕ
-  parts = d.before.before.before.args.parts
+  parts = d.args.parts
 
   abbrev count : ℕ
-  count = d.before.before.before.args.count
+  count = d.args.count
 
   asked_for : asked (length (ys d)) parts count ≡ accepted
   asked_for = step_accepts c.asked.ensures c.in-Accepted-asked.is

@@ -40,7 +40,8 @@ pub overflow_mul-past : goal.overflow_mul-past
 overflow_mul-past c = omega (arith, (fallen c).low)
 
 pub at-pair-requires : goal.at-pair-requires
-at-pair-requires c = (c.requires.sound, (fallen c).inside)
+at-pair-requires c =
+    record { sound = c.requires.sound; place_in_bounds = (fallen c).inside }
 
 pub overflow_sub-ys : goal.overflow_sub-ys
 overflow_sub-ys c = at_least_two (goal.at.overflow_sub-ys c).Start
@@ -58,16 +59,16 @@ module _ (c : After-struct_told-2-1) where
   d = (goal.at.After-struct_told-2-1 c).After-step_of-i
 
   abbrev ys : List ℤ
-  ys = d.before.args.ys.now
+  ys = d.args.ys.now
 
   abbrev i : ℕ
-  i = d.step_of.result
+  i = d.step_of-i.result
 
   abbrev parts : ℕ
-  parts = d.before.args.parts
+  parts = d.args.parts
 
   abbrev past : ℕ
-  past = d.before.args.count - i * parts
+  past = d.args.count - i * parts
 
   abbrev a : ℤ
   a = c.entry-scale.result
@@ -101,13 +102,13 @@ module _ (c : After-struct_told-2-1) where
   z'_is = ap (λ p. p.next) c.at-pair.ensures
 
   here : InStep (pos (scale ys)) (pos parts) (pos past) (y ys i) (y ys (suc i)) (unknown ys i) (unknown ys (suc i))
-  here = in_step d.before.requires.sound (fallen d) d.before.requires.fewest_parts_le_parts.0 d.before.requires.fewest_parts_le_parts.1
+  here = in_step d.requires.sound (fallen d) d.requires.fewest_parts_le_parts.0 d.requires.fewest_parts_le_parts.1
 
   all :
       In w64 (held a ∷ held (pos parts) ∷ held (pos past) ∷ held u ∷ held u' ∷ held z ∷ held z' ∷ [])
       (pos 1 to pos largest ∷ pos 1 to pos most_parts ∷ pos 0 to pos most_parts ∷ ± quintic.ordinates ∷ ± quintic.ordinates ∷ ± most_unknown ∷ ± most_unknown ∷ [])
   all =
-      let s = d.before.requires.sound in
+      let s = d.requires.sound in
       record {
         each = (
           rw a_is (scale_in s),
@@ -141,7 +142,7 @@ returns c =
     to_z-of_z {w = w64} (record { sfits = c.rounded.type_inv })
     ∙ gives (all e) seven (λ a q r u u' z z'. c.rounded.result ≡ nearest (worth (piece a q u u' z z') r) (nat_abs (a *ℤ (q *ℤ q *ℤ q)))) tt c.rounded.ensures
     ∙ moved₅ (λ a u u' z z'. nearest (worth (piece a (pos (parts e)) u u' z z') (pos (past e))) (nat_abs (a *ℤ (pos (parts e) *ℤ pos (parts e) *ℤ pos (parts e)))) ≡ value (ys e) (parts e) s.args.count)
-    (a_is e) (u_is e) (u'_is e) (z_is e) (z'_is e) (value_is (ys e) (parts e) s.args.count (i e) (d e).step_of.ensures)
+    (a_is e) (u_is e) (u'_is e) (z_is e) (z'_is e) (value_is (ys e) (parts e) s.args.count (i e) (d e).step_of-i.ensures)
 
 pub overflow_sub-past : goal.overflow_sub-past
 overflow_sub-past c = (fallen c).low

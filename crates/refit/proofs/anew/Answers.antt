@@ -6,10 +6,6 @@ use borrow.Author.Rules.{rules}
 use Rattle.refit.proofs.anew.Goals as goal
 use Rattle.refit.proofs.anew.Goals.{After-fresh-arg-1}
 
-pub changed-requires : goal.changed-requires
-changed-requires c =
-    let t = search rules in record { full = t.0; slopes_len = t.1 }
-
 pub returns-then-fitted-eq0 : goal.returns-then-fitted-eq0
 returns-then-fitted-eq0 c =
     let f = (goal.at.returns-then-fitted-eq0 c).After-fresh-arg-1 in

@@ -28,5 +28,5 @@ numbers_sound-requires c =
 pub returns : goal.returns
 returns c =
     let s = c.args in
-    let card = lent s.minutes.now s.ordinates.now s.slopes.now (take (length s.minutes.now) s.t4) 0 0 in
+    let card = lent s.minutes.now s.ordinates.now s.slopes.now (take (length s.minutes.now) s.worked) 0 0 in
     c.numbers_sound.ensures ∙ ap (λ k. numbers_sound (kind_of k) card) c.sloped-kind.ensures ∙ ap (λ K. numbers_sound K card) sloped_is

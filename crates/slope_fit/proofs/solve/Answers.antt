@@ -13,17 +13,13 @@ use Rattle.slope_fit.proofs.solve.Goals as goal
 use Rattle.slope_fit.proofs.solve.Goals.{Start}
 
 pub pairs_of-solved-requires : goal.pairs_of-solved-requires
-pairs_of-solved-requires c = let s = (goal.at.pairs_of-solved-requires c).Start in ((s.requires.alike.many, s.requires.alike.ordinates, s.requires.alike.slopes), (stood s.requires.minutes_value).rising)
+pairs_of-solved-requires c =
+    let s = (goal.at.pairs_of-solved-requires c).Start in record { minutes_len_bound = (s.requires.alike.many, s.requires.alike.ordinates, s.requires.alike.slopes); rising = (stood s.requires.minutes_value).rising }
 
 pub scale-numbers-requires : goal.scale-numbers-requires
 scale-numbers-requires c =
     let s = (goal.at.scale-numbers-requires c).Start in
-    let p = c.pairs_of-solved in
-    (s.requires.alike.many, λ k h. ap (λ (q : Solved). both_finite (get_or q.pairs k no_pair)) p.ensures ∙ pairs-finite _ _ _ k h)
-
-pub settle-requires : goal.settle-requires
-settle-requires c =
-    let t = search rules in record { alike = t.0; minutes_value = t.1 }
+    let p = c.pairs_of-solved in record { n_le_most = s.requires.alike.many; all_finite = λ k h. ap (λ (q : Solved). both_finite (get_or q.pairs k no_pair)) p.ensures ∙ pairs-finite _ _ _ k h }
 
 pub returns-then-solved-eq0 : goal.returns-then-solved-eq0
 returns-then-solved-eq0 c =

@@ -22,7 +22,8 @@ use Rattle.swing.proofs.gap_on.Goals as goal
 use Rattle.swing.proofs.gap_on.Goals.{After-loop-t, In-loop-t, Start}
 
 pub curve_at-curve-requires : goal.curve_at-curve-requires
-curve_at-curve-requires c = c.requires
+curve_at-curve-requires c =
+    let told = c.requires in record { checked = told.0; i_in_bounds = told.1 }
 
 pub overflow_sub-h : goal.overflow_sub-h
 overflow_sub-h c = let d = (goal.at.overflow_sub-h c).Start in omega (arith, wide d.requires.checked d.args.j d.requires.j_in_bounds)
@@ -81,7 +82,8 @@ pub overflow_cast-t : goal.overflow_cast-t
 overflow_cast-t c = record { sfits = omega (arith, small c) }
 
 pub value_at-value-requires : goal.value_at-value-requires
-value_at-value-requires c = (curve_laid (d c).requires.checked (j c) (curve_is c) (there c), minute_laid (d c).requires.checked (j c) (curve_is c) (there c) (t_is c))
+value_at-value-requires c =
+    record { laid = curve_laid (d c).requires.checked (j c) (curve_is c) (there c); in_gap = minute_laid (d c).requires.checked (j c) (curve_is c) (there c) (t_is c) }
 
 pub loop-t-preserved : goal.loop-t-preserved
 loop-t-preserved c =

@@ -40,4 +40,5 @@ pub overflow_add-j-in-loop-j : goal.overflow_add-j-in-loop-j
 overflow_add-j-in-loop-j c = omega (arith, c.requires.checked.long.few)
 
 pub gap_on-requires-in-loop-j : goal.gap_on-requires-in-loop-j
-gap_on-requires-in-loop-j c = (c.requires.checked, omega arith)
+gap_on-requires-in-loop-j c =
+    record { checked = c.requires.checked; j_in_bounds = omega arith }

@@ -48,7 +48,8 @@ gap_here : (c : In-loop-i) → (let a = (start c).args in IsGap a.xs.now (a.from
 gap_here c = c.loop-i.invariant.1 (omega arith)
 
 pub curve_at-curve-requires : goal.curve_at-curve-requires
-curve_at-curve-requires c = ((start c).requires.checked, (gap_here c).inside)
+curve_at-curve-requires c =
+    record { checked = (start c).requires.checked; i_in_bounds = (gap_here c).inside }
 
 pub offset_bounds-xs-j : goal.offset_bounds-xs-j
 offset_bounds-xs-j c = omega (arith, (gap_here (goal.at.offset_bounds-xs-j c).In-loop-i).inside)
@@ -57,7 +58,8 @@ pub bounds-xs-j : goal.bounds-xs-j
 bounds-xs-j c = omega (arith, (gap_here (goal.at.bounds-xs-j c).In-loop-i).inside)
 
 pub stop-stop-requires : goal.stop-stop-requires
-stop-stop-requires c = let g = gap_here (goal.at.stop-stop-requires c).In-loop-i in (g.inside, λ l. omega (arith, g.before l))
+stop-stop-requires c =
+    let g = gap_here (goal.at.stop-stop-requires c).In-loop-i in record { j_in_bounds = g.inside; from_bound = λ l. omega (arith, g.before l) }
 
 pub loop-i-2-init : goal.loop-i-2-init
 loop-i-2-init c = (omega arith, not_past c.stop-stop.ensures (gap_here (goal.at.loop-i-2-init c).In-loop-i) (omega arith), on_none, on_none, on_none)
@@ -75,7 +77,7 @@ module _ (c : In-loop-i-2) where
   xs = d.args.xs.now
 
   abbrev j : ℕ
-  j = outer.before.loop.j
+  j = outer.loop-i.j
 
   abbrev minute : ℕ
   minute = d.args.from + c.loop-i-2.i
@@ -93,7 +95,7 @@ module _ (c : In-loop-i-2) where
   last = omega (arith, d.requires.in_bounds.0.2, stops.within)
 
   small : get_or xs (length xs - 1) 0 < 2 ^ 16
-  small = (outer.before.before.before.shared-slice-known.given _).fits
+  small = (outer.shared_slice_known-1.given _).fits
 
   place : InPlace xs j minute
   place = in_place d.requires.checked j here last
@@ -105,18 +107,18 @@ module _ (c : In-loop-i-2) where
   -- the lists have room
   room_values : c.loop-i-2.i < length c.loop-i-2.values
   room_values =
-      let e : length c.loop-i-2.values ≡ length outer.before.loop.values = c.loop-i-2.invariant.2.same in
-      omega (arith, d.requires.in_bounds.1.0, stops.within, outer.before.loop.inv.2.same, e)
+      let e : length c.loop-i-2.values ≡ length outer.loop-i.values = c.loop-i-2.invariant.2.same in
+      omega (arith, d.requires.in_bounds.1.0, stops.within, outer.loop-i.inv.2.same, e)
 
   room_slopes : c.loop-i-2.i < length c.loop-i-2.slopes
   room_slopes =
-      let e : length c.loop-i-2.slopes ≡ length outer.before.loop.slopes = c.loop-i-2.invariant.3.same in
-      omega (arith, d.requires.in_bounds.1.1, stops.within, outer.before.loop.inv.3.same, e)
+      let e : length c.loop-i-2.slopes ≡ length outer.loop-i.slopes = c.loop-i-2.invariant.3.same in
+      omega (arith, d.requires.in_bounds.1.1, stops.within, outer.loop-i.inv.3.same, e)
 
   room_curvatures : c.loop-i-2.i < length c.loop-i-2.curvatures
   room_curvatures =
-      let e : length c.loop-i-2.curvatures ≡ length outer.before.loop.curvatures = c.loop-i-2.invariant.4.same in
-      omega (arith, d.requires.in_bounds.1.2, stops.within, outer.before.loop.inv.4.same, e)
+      let e : length c.loop-i-2.curvatures ≡ length outer.loop-i.curvatures = c.loop-i-2.invariant.4.same in
+      omega (arith, d.requires.in_bounds.1.2, stops.within, outer.loop-i.inv.4.same, e)
 
 -- the curve that was laid is the gap's
 outer_curve : (c : In-loop-i-2) → (let a = (d c).args in c.curve_at-curve.result ≡ curve_of a.xs.now a.ys.now a.ms.now a.cs.now (j c))
@@ -137,8 +139,7 @@ overflow_cast-from c = record { sfits = omega (arith, small c, last c) }
 pub at-r-requires : goal.at-r-requires
 at-r-requires c =
     let k = (d c).requires.checked in
-    let e = outer_curve c in
-    (curve_laid k (j c) e (place c), minute_laid k (j c) e (place c) (t_is c))
+    let e = outer_curve c in record { laid = curve_laid k (j c) e (place c); in_gap = minute_laid k (j c) e (place c) (t_is c) }
 
 -- ---- the lists
 

@@ -25,7 +25,8 @@ few c = c.requires.readable.some
 
 pub count-count-requires : goal.count-count-requires
 unfolding decoded knots
-count-count-requires c = let s = (goal.at.count-count-requires c).Start in (omega (arith, few s), (in_card _ _ s.requires.from_value.0).1)
+count-count-requires c =
+    let s = (goal.at.count-count-requires c).Start in record { xs_nonzero = omega (arith, few s); from_bound = (in_card _ _ s.requires.from_value.0).1 }
 
 pub slice_bounds-fill-end : goal.slice_bounds-fill-end
 slice_bounds-fill-end c = sym (length-take-le _ _ c.requires.readable.full.minutes)

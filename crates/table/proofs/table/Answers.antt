@@ -36,8 +36,7 @@ holds c = accepted_holds c.by_head-opened.ensures (accepts c).own
 pub give-count-requires : goal.give-count-requires
 give-count-requires c =
     let e = (goal.at.give-count-requires c).In-Accepted in
-    let t = accepts e in
-    (accepted_readable e.by_head-opened.ensures t.own, (rw (holds e).is t.inside, (t.slopes, t.curvatures)))
+    let t = accepts e in record { readable = accepted_readable e.by_head-opened.ensures t.own; from_value = rw (holds e).is t.inside; slopes_len = (t.slopes, t.curvatures) }
 
 pub returns-in-Refused : goal.returns-in-Refused
 returns-in-Refused c = let j = (goal.at.returns-in-Refused c).After-judged in tables_refused (lent j) (bytes j) _ (step_refused (verdict_is j) c.in-Refused.is)

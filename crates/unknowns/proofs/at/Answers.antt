@@ -37,7 +37,7 @@ second_difference-requires c =
     record { sound = c.requires.sound; i_in_bounds = omega (arith, c.requires.place_in_bounds, c.loop-i-test.true) }
 
 terms : (c : After-second_difference) →
-    In w64 (held c.entry-scale.result ∷ held c.second_difference.result ∷ bits c.loop-i.next ∷ bits c.loop-i.here ∷ [])
+    In w64 (held c.entry-scale.result ∷ held c.second_difference.result ∷ bits c.loop-i.next-bits ∷ bits c.loop-i.here-bits ∷ [])
     (pos 1 to pos largest ∷ ± (4 * quintic.ordinates) ∷ ± most_unknown ∷ ± most_unknown ∷ [])
 terms c =
     let s = (goal.at.After-second_difference c).Start in

@@ -19,7 +19,7 @@ use Rattle.unknowns.proofs.Ranges.{most_unknown, entered, entry_in, difference_i
 use Rattle.unknowns.proofs.at.Given as goal
 
 abbrev pub invariant-loop-i : goal.invariant-loop-i
-invariant-loop-i l = (l.i ≤ l.place) × (to_z w64 l.here ≡ unknown l.ys l.i) × (to_z w64 l.next ≡ unknown l.ys (suc l.i))
+invariant-loop-i l = (l.i ≤ l.place) × (l.here ≡ unknown l.ys l.i) × (l.next ≡ unknown l.ys (suc l.i))
 
 abbrev pub decreases-loop-i : goal.decreases-loop-i
 decreases-loop-i l = l.place - l.i

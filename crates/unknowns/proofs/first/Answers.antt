@@ -42,7 +42,7 @@ second_difference-requires c =
     record { sound = c.requires; i_in_bounds = omega (arith, c.requires.least, c.loop-k-test.true) }
 
 terms : (c : After-second_difference) →
-    In w64 (held c.entry.result ∷ held c.second_difference.result ∷ bits c.loop-k.total ∷ [])
+    In w64 (held c.entry.result ∷ held c.second_difference.result ∷ bits c.loop-k.total-bits ∷ [])
     (pos 1 to pos largest ∷ ± (4 * quintic.ordinates) ∷ ± most_unknown ∷ [])
 terms c =
     let s = (goal.at.After-second_difference c).Start in

@@ -19,7 +19,7 @@ use Rattle.unknowns.proofs.Ranges.{most_unknown, entry_in, difference_in, sum_in
 use Rattle.unknowns.proofs.first.Given as goal
 
 abbrev pub invariant-loop-k : goal.invariant-loop-k
-invariant-loop-k l = (l.k ≤ length l.ys - 2) × (to_z w64 l.total ≡ sum l.ys (length l.ys - 2 - l.k) l.k)
+invariant-loop-k l = (l.k ≤ length l.ys - 2) × (l.total ≡ sum l.ys (length l.ys - 2 - l.k) l.k)
 
 abbrev pub decreases-loop-k : goal.decreases-loop-k
 decreases-loop-k l = length l.ys - 2 - l.k

@@ -53,7 +53,7 @@ returns-then-i-eq0 c =
     ∙ ap told (sym (solved _ _ (accepts d) c.if-ys-i.false))
 
 pub at-pair-requires : goal.at-pair-requires
-at-pair-requires c = (small (goal.at.at-pair-requires c).In-Accepted, omega (arith, c.if-ys-i.false))
+at-pair-requires c = record { sound = small (goal.at.at-pair-requires c).In-Accepted; place_in_bounds = omega (arith, c.if-ys-i.false) }
 
 pub returns-in-Refused : goal.returns-in-Refused
 returns-in-Refused c = c.refused.ensures ∙ ap told (sym (not_checked _ _ (step_refused c.check.ensures c.in-Refused.is)))
@@ -63,7 +63,7 @@ module _ (c : After-struct_told-1) where
   d = (goal.at.After-struct_told-1 c).In-Accepted
 
   abbrev i : ℕ
-  i = d.before.before.before.args.place
+  i = d.args.place
 
   -- the second of the pair
   next_is : c.at-pair.result.next ≡ unknown (ys d) i

@@ -38,8 +38,9 @@ returns-in-Refused c =
     writes_refused (kind_of (kind w)) (card w) (buffer w) (step_refused w.writable-verdict.ensures c.in-Refused.is)
 
 pub put_card-requires : goal.put_card-requires
-put_card-requires c = let t =
-    let t = ready (goal.at.put_card-requires c).In_default in omega arith in record { minutes_len_bound = t.0; ordinates_len = t.1; minutes_in_bounds = t.2 }
+put_card-requires c =
+    let t = ready (goal.at.put_card-requires c).In_default in
+    record { minutes_len_bound = omega arith; ordinates_len = omega arith; minutes_in_bounds = omega arith }
 
 pub overflow_mul-result : goal.overflow_mul-result
 overflow_mul-result c = let t = ready (goal.at.overflow_mul-result c).In_default in omega arith

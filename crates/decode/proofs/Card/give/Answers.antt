@@ -29,14 +29,14 @@ loop-place-preserved c =
 pub returns : goal.returns
 unfolding decoded
 returns c =
-    let t = let v = c.loop-place.invariant in
+    let v = c.loop-place.invariant in
     let s = (goal.at.returns c).Start in
     let e : c.loop-place.place ≡ s.args.self.knots = omega arith in
     let full = s.requires.full in
-    let d = s.args.self in (
-      filled_by 0 d.minutes v.1 e full.minutes,
-      (
-        filled_by (pos 0) d.ordinates v.2 e full.ordinates,
-        (filled_by (pos 0) d.slopes v.3 e full.slopes, filled_by (pos 0) d.curvatures v.4 e full.curvatures),
-      ),
-    ) in record { minutes_after = t.0; ordinates_after = t.1; slopes_after = t.2; curvatures_after = t.3 }
+    let d = s.args.self in
+    record {
+      minutes_after = filled_by 0 d.minutes v.1 e full.minutes;
+      ordinates_after = filled_by (pos 0) d.ordinates v.2 e full.ordinates;
+      slopes_after = filled_by (pos 0) d.slopes v.3 e full.slopes;
+      curvatures_after = filled_by (pos 0) d.curvatures v.4 e full.curvatures;
+    }

@@ -72,12 +72,12 @@ returns c =
 
 pub rounded-requires : goal.rounded-requires
 rounded-requires c =
-    let t = asks_rounded (goal.at.rounded-requires c).After-numerators-n Value in record { d_nonzero = t.0; d_bound = t.1 }
+    let told = asks_rounded (goal.at.rounded-requires c).After-numerators-n Value in record { d_nonzero = told.0; d_bound = told.1 }
 
 pub rounded-requires-2 : goal.rounded-requires-2
 rounded-requires-2 c =
-    let t = asks_rounded (goal.at.rounded-requires-2 c).After-numerators-n Slope in record { d_nonzero = t.0; d_bound = t.1 }
+    let told = asks_rounded (goal.at.rounded-requires-2 c).After-numerators-n Slope in record { d_nonzero = told.0; d_bound = told.1 }
 
 pub rounded-requires-3 : goal.rounded-requires-3
 rounded-requires-3 c =
-    let t = asks_rounded (goal.at.rounded-requires-3 c).After-numerators-n Curvature in record { d_nonzero = t.0; d_bound = t.1 }
+    let told = asks_rounded (goal.at.rounded-requires-3 c).After-numerators-n Curvature in record { d_nonzero = told.0; d_bound = told.1 }

@@ -27,10 +27,10 @@ abbrev start : After-struct_told-4-1 → Start
 start c = (goal.at.After-struct_told-4-1 c).Start
 
 pub shares_of-a-requires : goal.shares_of-a-requires
-shares_of-a-requires c = let q = (start c).requires in let f = fair_left q.0 q.1 in asks (on_gap q.1 f) leftwards (λ l r b t s. Fair (by_powers l r b) t s) tt f
+shares_of-a-requires c = let q = (start c).requires in let f = fair_left q.laid q.in_gap in asks (on_gap q.in_gap f) leftwards (λ l r b t s. Fair (by_powers l r b) t s) tt f
 
 pub shares_of-b-requires : goal.shares_of-b-requires
-shares_of-b-requires c = let q = (start (goal.at.shares_of-b-requires c).After-struct_told-4-1).requires in let f = fair_right q.0 q.1 in asks (on_gap q.1 f) rightwards (λ l r b s t. Fair (by_powers l r b) s t) tt f
+shares_of-b-requires c = let q = (start (goal.at.shares_of-b-requires c).After-struct_told-4-1).requires in let f = fair_right q.laid q.in_gap in asks (on_gap q.in_gap f) rightwards (λ l r b s t. Fair (by_powers l r b) s t) tt f
 
 -- ---- together
 
@@ -39,7 +39,7 @@ module _ (c : After-shares_of-b) where
   first = (goal.at.After-shares_of-b c).After-shares_of-a
 
   abbrev d : Start
-  d = start first.before
+  d = start (goal.at.After-shares_of-a first).After-struct_told-4-1
 
   abbrev h : ℤ
   h = d.args.self.h
@@ -50,16 +50,16 @@ module _ (c : After-shares_of-b) where
   abbrev g : GapCurve
   g = d.args.self
 
-  left_added : first.shares_of.result ≡ shares g.left t (h -ℤ t)
-  left_added = gives (on_gap d.requires.in_gap (fair_left d.requires.laid d.requires.in_gap)) leftwards (λ l r b t s. first.shares_of.result ≡ shares (by_powers l r b) t s) tt first.shares_of.ensures
+  left_added : first.shares_of-a.result ≡ shares g.left t (h -ℤ t)
+  left_added = gives (on_gap d.requires.in_gap (fair_left d.requires.laid d.requires.in_gap)) leftwards (λ l r b t s. first.shares_of-a.result ≡ shares (by_powers l r b) t s) tt first.shares_of-a.ensures
 
   right_added : c.shares_of-b.result ≡ shares g.right (h -ℤ t) t
   right_added = gives (on_gap d.requires.in_gap (fair_right d.requires.laid d.requires.in_gap)) rightwards (λ l r b s t. c.shares_of-b.result ≡ shares (by_powers l r b) s t) tt c.shares_of-b.ensures
 
   abbrev both : Quantity → List Src
-  both q = held (share q first.shares_of.result) ∷ held (share q c.shares_of-b.result) ∷ []
+  both q = held (share q first.shares_of-a.result) ∷ held (share q c.shares_of-b.result) ∷ []
 
-  small : (q : Quantity) → nat_abs (share q first.shares_of.result) + nat_abs (share q c.shares_of-b.result) < 2 ^ 63
+  small : (q : Quantity) → nat_abs (share q first.shares_of-a.result) + nat_abs (share q c.shares_of-b.result) < 2 ^ 63
   small q = omega (arith, ap (λ n. nat_abs (share q n)) left_added, ap (λ n. nat_abs (share q n)) right_added, sides_fit d.requires.laid d.requires.in_gap q)
 
   abbrev put : Quantity → E
@@ -68,7 +68,7 @@ module _ (c : After-shares_of-b) where
   put Curvature = v0 :+ v1
 
   abbrev l : Quantity → ℤ
-  l q = share q first.shares_of.result
+  l q = share q first.shares_of-a.result
 
   abbrev r : Quantity → ℤ
   r q = share q c.shares_of-b.result

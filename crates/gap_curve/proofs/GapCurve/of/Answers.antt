@@ -24,15 +24,16 @@ within : (c : Start) → In w64 (held c.args.h ∷ held c.args.h ∷ []) gap_top
 within c = minute_in c.requires.in_gap
 
 pub of-left-requires : goal.of-left-requires
-of-left-requires c = asks (within c) (v0 ∷ []) (λ h. (InGap h h) × (Keeps near c.args.a)) tt (c.requires.in_gap, left_near c.requires.in_gap c.requires.tame)
+of-left-requires c =
+    let told = asks (within c) (v0 ∷ []) (λ h. (InGap h h) × (Keeps near c.args.a)) tt (c.requires.in_gap, left_near c.requires.in_gap c.requires.tame) in record { in_gap = told.0; keeps = told.1 }
 
 pub mirrored-requires : goal.mirrored-requires
 mirrored-requires c = let d = (goal.at.mirrored-requires c).Start in omega (arith, (right_far Value d.requires.in_gap d.requires.tame).slope)
 
 pub of-right-requires : goal.of-right-requires
 of-right-requires c =
-    let d = (goal.at.of-right-requires c).Start in
-    asks (within d) (v0 ∷ []) (λ h. (InGap h h) × (Keeps near c.mirrored.result)) tt (rw c.mirrored.ensures (d.requires.in_gap, right_near d.requires.in_gap d.requires.tame))
+    let told = (let d = (goal.at.of-right-requires c).Start in
+    asks (within d) (v0 ∷ []) (λ h. (InGap h h) × (Keeps near c.mirrored.result)) tt (rw c.mirrored.ensures (d.requires.in_gap, right_near d.requires.in_gap d.requires.tame))) in record { in_gap = told.0; keeps = told.1 }
 
 pub returns : goal.returns
 unfolding laid

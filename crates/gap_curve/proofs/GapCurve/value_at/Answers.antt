@@ -27,10 +27,10 @@ abbrev start : After-struct_told-4-1 → Start
 start c = (goal.at.After-struct_told-4-1 c).Start
 
 pub value_share-a-requires : goal.value_share-a-requires
-value_share-a-requires c = let q = (start c).requires in let f = fair_left q.0 q.1 in asks (on_gap q.1 f) leftwards (λ l r b t s. Fair (by_powers l r b) t s) tt f
+value_share-a-requires c = let q = (start c).requires in let f = fair_left q.laid q.in_gap in asks (on_gap q.in_gap f) leftwards (λ l r b t s. Fair (by_powers l r b) t s) tt f
 
 pub value_share-b-requires : goal.value_share-b-requires
-value_share-b-requires c = let q = (start (goal.at.value_share-b-requires c).After-struct_told-4-1).requires in let f = fair_right q.0 q.1 in asks (on_gap q.1 f) rightwards (λ l r b s t. Fair (by_powers l r b) s t) tt f
+value_share-b-requires c = let q = (start (goal.at.value_share-b-requires c).After-struct_told-4-1).requires in let f = fair_right q.laid q.in_gap in asks (on_gap q.in_gap f) rightwards (λ l r b s t. Fair (by_powers l r b) s t) tt f
 
 -- ---- together
 
@@ -39,7 +39,7 @@ module _ (c : After-value_share-b) where
   first = (goal.at.After-value_share-b c).After-value_share-a
 
   abbrev d : Start
-  d = start first.before
+  d = start (goal.at.After-value_share-a first).After-struct_told-4-1
 
   abbrev g : GapCurve
   g = d.args.self
@@ -48,13 +48,13 @@ module _ (c : After-value_share-b) where
   t = d.args.t
 
   abbrev l : ℤ
-  l = first.value-share.result
+  l = first.value_share-a.result
 
   abbrev r : ℤ
   r = c.value_share-b.result
 
   left_is : l ≡ (shares g.left t (g.h -ℤ t)).value
-  left_is = gives (on_gap d.requires.in_gap (fair_left d.requires.laid d.requires.in_gap)) leftwards (λ a b e t s. l ≡ (shares (by_powers a b e) t s).value) tt first.value-share.ensures
+  left_is = gives (on_gap d.requires.in_gap (fair_left d.requires.laid d.requires.in_gap)) leftwards (λ a b e t s. l ≡ (shares (by_powers a b e) t s).value) tt first.value_share-a.ensures
 
   right_is : r ≡ (shares g.right (g.h -ℤ t) t).value
   right_is = gives (on_gap d.requires.in_gap (fair_right d.requires.laid d.requires.in_gap)) rightwards (λ a b e s t. r ≡ (shares (by_powers a b e) s t).value) tt c.value_share-b.ensures
@@ -77,10 +77,10 @@ module _ (c : After-value_share-b) where
 
 pub rounded-requires : goal.rounded-requires
 rounded-requires c =
-    let t = let p = (d c).requires.laid in
+    let told = (let p = (d c).requires.laid in
     let i = (d c).requires.in_gap in
     asked w64 (both c) ((v0 :+ v1) ∷ []) (λ n. ((0 < (g c).under) × (nat_abs n < 2 ^ 63)) × (nat_abs (nearest n (g c).under) < 2 ^ 31)) (fits c, tt)
-    ((rw (beneath_is p Value) (denominator_positive Value i p.tame), rw (sum_is c ∙ added_is p i Value) (numerator_fits Value i p.tame)), rw (round_is c ∙ rounds_is p i Value) (reading_fits Value i p.tame)) in record { d_nonzero = t.0; d_bound = t.1 }
+    ((rw (beneath_is p Value) (denominator_positive Value i p.tame), rw (sum_is c ∙ added_is p i Value) (numerator_fits Value i p.tame)), rw (round_is c ∙ rounds_is p i Value) (reading_fits Value i p.tame))) in record { d_nonzero = told.0; d_bound = told.1 }
 
 pub returns : goal.returns
 unfolding read_of

@@ -27,7 +27,7 @@ tops = pos 1 to pos widest ∷ ± (2 ^ 23) ∷ ± (2 ^ 31) ∷ ± (2 ^ 30) ∷ [
 within : (c : After-struct_told-3-1) → In w64 (args c) tops
 within c =
     let p = (start c).requires in
-    record { each = (record { low = p.0.wide; high = p.0.narrow }, (∈_abs p.1.ordinate, (∈_abs p.1.slope, (∈_abs p.1.curvature, tt)))) }
+    record { each = (record { low = p.in_gap.wide; high = p.in_gap.narrow }, (∈_abs p.keeps.ordinate, (∈_abs p.keeps.slope, (∈_abs p.keeps.curvature, tt)))) }
 
 op : (e : E) → T (safe w64 tops e) → (c : After-struct_told-3-1) → SFits w64 (res w64 (args c) e)
 op e t c = step (within c) e t

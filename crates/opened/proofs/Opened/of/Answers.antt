@@ -16,7 +16,7 @@ pub of-held-requires : goal.of-held-requires
 of-held-requires c = shape_room _ quintic_few _ (step_accepts c.shaped.ensures c.in-Accepted.is)
 
 opened : (c : After-of-held) → Holds c.of-held.result c.args.card.now
-opened c = holds _ (of-held-requires (goal.at.After-of-held c).In-Accepted c.lifetimes).0 c.of-held.ensures
+opened c = holds _ (of-held-requires (goal.at.After-of-held c).In-Accepted).0 c.of-held.ensures
 
 pub sound-requires : goal.sound-requires
 sound-requires c = (opened c).full
