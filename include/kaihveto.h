@@ -2,7 +2,7 @@
 
    There are two ways to link it, and they answer alike. Compile kaihveto.c, which is one file of C11 and needs nothing but this
    header and the C library's memcpy and memset: `cc -std=c11 -O2 -c kaihveto.c`. Or, on x86-64 Linux, take the archive that
-   `rt staticlib kaihveto` writes. The library keeps nothing between calls and asks the system for nothing.
+   `sh tests/c/archive` writes. The library keeps nothing between calls and asks the system for nothing.
 
    Words. A knot has a minute (0 to 65,535) and an ordinate (whole hundredths, -20,000 to 20,000). A card has 3 to 64 knots
    with gaps of 1 to 60 minutes, and adds to each knot a slope and a curvature in card units: 1/4096 hundredth per minute, and

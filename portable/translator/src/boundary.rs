@@ -140,16 +140,33 @@ pub fn foreign(f: &Function, signature: &str, names: &[String], symbol: &str, si
     if kinds.is_empty() {
         kinds.push("void".into());
     }
+    // a file is opened by Linux's flags, which os.c knows; its mode, where it has none, is 0. And locks are not
+    // POSIX's
+    let symbol = match symbol {
+        "open" => "rattle_open",
+        "flock" => "rattle_flock",
+        _ => symbol,
+    };
+    if symbol == "rattle_open" && args.len() == 2 {
+        kinds.push("uint32_t".into());
+        args.push("0u".into());
+    }
     // what the kit's own library of C defines is declared here and defined in os.c; the rest is POSIX's
     let declared = if symbol.starts_with("rattle_") { format!("{kind}{symbol}({});\n\n", kinds.join(", ")) } else { String::new() };
     let symbol = if symbol == "__xpg_strerror_r" { "strerror_r" } else { symbol };
     format!("{declared}{signature}\n{{\n    {gives}{symbol}({});\n}}\n\n", args.join(", "))
 }
 
-pub fn main_of(symbol: &str, arguments: bool) -> String {
+/// C's main. The program ends with 0, or with the number that its own main answers.
+pub fn main_of(types: &Types, symbol: &str, answer: &Ty, arguments: bool) -> String {
     let (declared, first) = match arguments {
         true => ("void rattle_main(int argc, char **argv);\n\n", "rattle_main(argc, argv);"),
         false => ("", "(void)argc;\n    (void)argv;"),
     };
-    format!("{declared}int main(int argc, char **argv)\n{{\n    {first}\n    {}();\n    return 0;\n}}\n", c_name(symbol))
+    let call = match answer {
+        _ if types.empty(answer) => format!("{}();\n    return 0;", c_name(symbol)),
+        Ty::Named(code) if code == "std::process::ExitCode" => format!("return {}().{};", c_name(symbol), types.field(code, 0)),
+        _ => fail("a main that answers something", symbol),
+    };
+    format!("{declared}int main(int argc, char **argv)\n{{\n    {first}\n    {call}\n}}\n")
 }

@@ -29,8 +29,25 @@ pub enum Expr {
     AddrOf(Box<Expr>),
     /// A struct of these fields, an array of these elements, or an enum of this tag and these fields.
     Aggregate(Vec<Expr>, Ty),
-    /// An array whose elements are constants, by its number among the tables of the file.
+    /// A constant that lies in memory of its own, as the code has it; and by its number among the tables of
+    /// the file.
+    Lent(Constant, Ty),
     Table(usize, Ty),
+}
+
+/// What a constant in memory of its own is made of.
+#[derive(Clone, PartialEq, Debug)]
+pub enum Constant {
+    Int(u64, u64),
+    Float(u64),
+    Bool(bool),
+    Unit,
+    /// A struct's fields, an array's elements, or an enum's tag and then its fields.
+    Parts(Vec<Constant>),
+    /// An array whose elements are alike.
+    Repeat(Box<Constant>, u64),
+    /// A pointer that many bytes into the constant.
+    Here(u64),
 }
 
 #[derive(Clone, PartialEq, Debug)]
@@ -46,6 +63,7 @@ pub enum Stmt {
     Loop(Vec<Stmt>),
     Exit(usize),
     Return,
+    Unreachable,
 }
 
 pub enum Body {
@@ -93,6 +111,7 @@ pub struct Program {
 
 pub fn program(t: &Term) -> Program {
     let Term::Node(top) = t else { return t.unknown("a program") };
+    let top = if let [Term::Node(inner)] = &top[..] { inner } else { top };
     let [Term::Word(word), functions, main] = &top[..] else { return t.unknown("a program") };
     if word != "program" {
         t.unknown::<()>("a program");
@@ -143,6 +162,7 @@ fn statements(t: &Term, locals: &[Ty], into: &mut Vec<Stmt>) {
             return statements(b, locals, into);
         }
         ("skip", []) => return,
+        ("lendStatic", [p, of, value]) => Stmt::Assign(place(p), lent(place(p), Expr::Lent(constant(value), ty(of)), locals)),
         ("assign", [p, value]) => match value.form() {
             ("repeat", [x, n]) => Stmt::Repeat(place(p), operand(x), n.number()),
             // the place's type says what an aggregate is of; only whole locals are given one
@@ -164,8 +184,33 @@ fn statements(t: &Term, locals: &[Ty], into: &mut Vec<Stmt>) {
         ("loop", [b]) => Stmt::Loop(inner(b)),
         ("exit", [k]) => Stmt::Exit(k.place_number()),
         ("return", []) => Stmt::Return,
+        // the proof has that no call comes here
+        ("unreachable", []) => Stmt::Unreachable,
         _ => t.unknown("a statement"),
     })
+}
+
+/// The reference to a constant, or to the first field of it, where the local is one to that.
+fn lent(to: Expr, value: Expr, locals: &[Ty]) -> Expr {
+    let first = match (&to, &value) {
+        (Expr::Local(x), Expr::Lent(_, t @ Ty::Named(_))) => !matches!(&locals[*x], Ty::Ref(_, of) if **of == *t),
+        _ => false,
+    };
+    Expr::AddrOf(Box::new(if first { Expr::Field(Box::new(value), 0) } else { value }))
+}
+
+fn constant(t: &Term) -> Constant {
+    match t.form() {
+        ("int", [w, n]) => Constant::Int(w.number(), n.number()),
+        ("float", [f, bits]) if f.number() == 64 => Constant::Float(bits.number()),
+        ("true", []) => Constant::Bool(true),
+        ("false", []) => Constant::Bool(false),
+        ("unit", []) => Constant::Unit,
+        ("parts", [all]) => Constant::Parts(all.list().into_iter().map(constant).collect()),
+        ("repeat", [one, n]) => Constant::Repeat(Box::new(constant(one)), n.number()),
+        ("here", [n]) => Constant::Here(n.number()),
+        _ => t.unknown("a constant"),
+    }
 }
 
 fn switch_arms(arms: &Term, inner: &dyn Fn(&Term) -> Vec<Stmt>) -> Vec<(Vec<u64>, Vec<Stmt>)> {
@@ -279,6 +324,7 @@ impl Expr {
                 | Expr::Element(..)
                 | Expr::Listed(..)
                 | Expr::Table(..)
+                | Expr::Lent(..)
         )
     }
 

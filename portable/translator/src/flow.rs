@@ -7,9 +7,12 @@
 //! - A struct or an array that is a copy of a part of another, both of them only read from then on, is that
 //!   part.
 //! - A value that a branch makes for the code behind it to return is returned there.
+//! - A block that is left only where it ends is no block; where a test leaves it, what is behind that is for
+//!   the other answer.
 //! - A multiple of an element's size, counted from an array or a list, is an element of it.
 //! - An array of constants that is only read is a table of the file.
 use crate::code::{Body, Expr, Function, Program, Stmt};
+use crate::operations::Op2;
 use crate::types::{Shape, Ty, Types};
 
 /// What a function's code is read with: its own locals, and what the program knows.
@@ -23,12 +26,12 @@ pub struct Scope<'a> {
     named: usize,
 }
 
-/// A function's code in its last form, with the tables that it reads: the local that each was, its elements
-/// and its type.
+/// A function's code in its last form, with the tables that it reads: the local that each was, or that it is
+/// lent to, what is in it and its type. One that nothing reads has none of these.
 pub struct Ready<'a> {
     pub scope: Scope<'a>,
     pub code: Vec<Stmt>,
-    pub tables: Vec<(usize, Expr)>,
+    pub tables: Vec<Option<(usize, Expr, Ty)>>,
 }
 
 /// How large a value may grow by what is put into it: beyond that it is hard to read.
@@ -40,6 +43,9 @@ pub fn ready<'a>(types: &'a Types, program: &'a Program, f: &'a Function, bindin
         Scope { types, program, locals: &f.locals, slots: f.slots.clone(), params: f.params, named: f.params + 1 + f.copies() + bindings };
     let mut code = code.clone();
     scope.merge_parameters(&mut code);
+    let mut tables = vec![];
+    scope.take_lent(&mut code, first_table, &mut tables);
+    scope.share_addresses(&mut code);
     let mut before = vec![];
     while before != code {
         before = code.clone();
@@ -47,10 +53,18 @@ pub fn ready<'a>(types: &'a Types, program: &'a Program, f: &'a Function, bindin
         scope.forward(&mut code, &alone);
         each_value(&mut code, &mut |e| scope.index(e));
         scope.share_copies(&mut code);
+        plain_blocks(&mut code);
         scope.return_at_once(&mut code);
         scope.drop_unread(&mut code);
     }
-    let tables = scope.take_tables(&mut code, first_table);
+    scope.take_tables(&mut code, first_table, &mut tables);
+    for (k, table) in tables.iter_mut().enumerate() {
+        let mut is_read = false;
+        each_value(&mut code, &mut |e| is_read |= matches!(e, Expr::Table(n, _) if *n == first_table + k));
+        if !is_read {
+            *table = None;
+        }
+    }
     Ready { scope, code, tables }
 }
 
@@ -167,14 +181,15 @@ impl Scope<'_> {
                 Some(variants) => variants[*v][*k].clone(),
                 None => crate::term::fail("a variant", &self.ty(a).tag()),
             },
-            Expr::Deref(_, t) | Expr::Element(_, _, t) | Expr::Listed(_, _, t) | Expr::Aggregate(_, t) | Expr::Table(_, t) => t.clone(),
+            Expr::Deref(_, t) | Expr::Element(_, _, t) | Expr::Listed(_, _, t) | Expr::Aggregate(_, t) => t.clone(),
+            Expr::Lent(_, t) | Expr::Table(_, t) => t.clone(),
             Expr::Int(w, _) => Ty::Int(*w),
             Expr::Float(_) => Ty::Float,
             Expr::Bool(_) => Ty::Bool,
             Expr::Unit => Ty::Unit,
             Expr::Op1(o, a) => o.ty(&self.ty(a)),
             Expr::Op2(o, a, _) => o.ty(&self.ty(a)),
-            Expr::AddrOf(p) => Ty::Ref(true, Box::new(self.ty(p))),
+            Expr::AddrOf(p) => Ty::Ref(!is_lent_constant(p), Box::new(self.ty(p))),
         }
     }
 
@@ -356,10 +371,10 @@ impl Scope<'_> {
             }
             return;
         }
-        let Expr::Op2(crate::operations::Op2::Offset, from, by) = &**p else { return };
+        let Expr::Op2(Op2::Offset, from, by) = &**p else { return };
         let bytes = self.types.layout(t).0;
         let at = match &**by {
-            Expr::Op2(crate::operations::Op2::Mul, i, each) if **each == Expr::Int(64, bytes) => i.clone(),
+            Expr::Op2(Op2::Mul, i, each) if **each == Expr::Int(64, bytes) => i.clone(),
             Expr::Int(64, n) if bytes > 0 && n % bytes == 0 => Box::new(Expr::Int(64, n / bytes)),
             by if bytes == 1 => Box::new(by.clone()),
             _ => return,
@@ -375,8 +390,44 @@ impl Scope<'_> {
 
     // ---- tables
 
-    fn take_tables(&self, code: &mut Vec<Stmt>, first: usize) -> Vec<(usize, Expr)> {
-        let mut tables = vec![];
+    /// Constants that the code lends from memory of their own; two that are alike are one.
+    fn take_lent(&self, code: &mut [Stmt], first: usize, tables: &mut Vec<Option<(usize, Expr, Ty)>>) {
+        for s in code {
+            if let Stmt::Assign(p, Expr::AddrOf(to)) = s {
+                let lent = if let Expr::Field(whole, 0) = &mut **to { &mut **whole } else { &mut **to };
+                if let (Some(x), Expr::Lent(_, t)) = (p.base(), &*lent) {
+                    let (value, t) = (lent.clone(), t.clone());
+                    let known = tables.iter().flatten().position(|(_, old, u)| *old == value && *u == t);
+                    *lent = Expr::Table(first + known.unwrap_or(tables.len()), t.clone());
+                    if known.is_none() {
+                        tables.push(Some((x, value, t)));
+                    }
+                }
+            }
+            inner_mut(s).into_iter().for_each(|c| self.take_lent(c, first, tables));
+        }
+    }
+
+    /// A local that is given the address of a constant, and nothing else, is that address.
+    fn share_addresses(&self, code: &mut Vec<Stmt>) {
+        for x in self.params + 1..self.locals.len() {
+            let Some(Stmt::Assign(_, value)) = only_write_anywhere(code, x) else { continue };
+            let is_address = matches!(value, Expr::AddrOf(p) if is_lent_constant(p));
+            let fits = self.ty(value) == self.locals[x] || matches!(&self.locals[x], Ty::Ref(..));
+            if self.slots[x] || !is_address || !fits {
+                continue;
+            }
+            let value = value.clone();
+            remove_write(code, x);
+            each_value(code, &mut |e| {
+                if *e == Expr::Local(x) {
+                    *e = value.clone()
+                }
+            });
+        }
+    }
+
+    fn take_tables(&self, code: &mut Vec<Stmt>, first: usize, tables: &mut Vec<Option<(usize, Expr, Ty)>>) {
         for x in self.params + 1..self.locals.len() {
             let constant = |s: &Stmt| matches!(s, Stmt::Assign(Expr::Local(y), Expr::Aggregate(parts, Ty::Array(..))) if *y == x && parts.len() > 4 && parts.iter().all(Expr::is_constant));
             let Some(at) = code.iter().position(constant) else { continue };
@@ -390,9 +441,8 @@ impl Scope<'_> {
                     *e = table.clone()
                 }
             });
-            tables.push((x, value));
+            tables.push(Some((x, value, self.locals[x].clone())));
         }
-        tables
     }
 
     /// Whether nothing that has an array's address can write through it: an address is taken only as a
@@ -418,6 +468,33 @@ impl Scope<'_> {
             };
             here && inner(s).into_iter().all(|c| self.only_read(c, x))
         })
+    }
+}
+
+/// Whether a place is a constant in memory of its own, or its first field.
+fn is_lent_constant(p: &Expr) -> bool {
+    match p {
+        Expr::Lent(..) | Expr::Table(..) => true,
+        Expr::Field(a, 0) => matches!(**a, Expr::Lent(..) | Expr::Table(..)),
+        _ => false,
+    }
+}
+
+/// The one statement that writes to a local, wherever it is.
+fn only_write_anywhere(code: &[Stmt], x: usize) -> Option<&Stmt> {
+    fn all<'c>(code: &'c [Stmt], x: usize, found: &mut Vec<&'c Stmt>) {
+        for s in code {
+            if own(s).1.is_some_and(|p| p.base() == Some(x)) {
+                found.push(s);
+            }
+            inner(s).into_iter().for_each(|c| all(c, x, found));
+        }
+    }
+    let mut found = vec![];
+    all(code, x, &mut found);
+    match found[..] {
+        [s] if writes_whole(s, x) => Some(s),
+        _ => None,
     }
 }
 
@@ -458,7 +535,7 @@ fn ends_in_giving(code: &[Stmt], v: usize) -> bool {
     match code.last() {
         Some(s @ (Stmt::Assign(..) | Stmt::Call(..))) => writes_whole(s, v),
         Some(s @ (Stmt::If(..) | Stmt::Switch(..))) => inner(s).into_iter().all(|c| ends_in_giving(c, v)),
-        Some(Stmt::Return | Stmt::Exit(_)) => true,
+        Some(Stmt::Return | Stmt::Exit(_) | Stmt::Unreachable) => true,
         _ => false,
     }
 }
@@ -471,6 +548,86 @@ fn give_result(code: &mut Vec<Stmt>, v: usize) {
         }
         Some(s @ (Stmt::If(..) | Stmt::Switch(..))) => inner_mut(s).into_iter().for_each(|c| give_result(c, v)),
         _ => {}
+    }
+}
+
+// ---- blocks
+
+fn plain_blocks(code: &mut Vec<Stmt>) {
+    code.iter_mut().flat_map(inner_mut).for_each(plain_blocks);
+    code.retain(|s| *s != Stmt::Block(vec![]));
+    let mut i = 0;
+    while i < code.len() {
+        if let Stmt::Block(inside) = &mut code[i] {
+            fall_through(inside, 0);
+            inside.iter_mut().for_each(both_tests);
+            one_or_other(inside);
+            if !leaves(inside, 0) {
+                let mut inside = std::mem::take(inside);
+                one_block_less(&mut inside, 0);
+                code.splice(i..=i, inside);
+                continue;
+            }
+        }
+        i += 1;
+    }
+}
+
+/// Where code ends, going out of so many blocks and loops to the end of the next is going on.
+fn fall_through(code: &mut Vec<Stmt>, depth: usize) {
+    while code.last() == Some(&Stmt::Exit(depth)) {
+        code.pop();
+    }
+    match code.last_mut() {
+        Some(s @ (Stmt::If(..) | Stmt::Switch(..))) => inner_mut(s).into_iter().for_each(|c| fall_through(c, depth)),
+        Some(Stmt::Block(inside)) => fall_through(inside, depth + 1),
+        _ => {}
+    }
+}
+
+/// A test whose code ends in leaving the block: what is behind it is for the other answer.
+fn one_or_other(inside: &mut Vec<Stmt>) {
+    let at = inside.iter().position(|s| matches!(s, Stmt::If(_, yes, no) if yes.last() == Some(&Stmt::Exit(0)) && no.is_empty()));
+    let ends_in_loop = matches!(inside.last(), Some(Stmt::Loop(_)));
+    if let (Some(at), false) = (at, ends_in_loop) {
+        let mut rest = inside.split_off(at + 1);
+        one_or_other(&mut rest);
+        if let Some(Stmt::If(_, yes, no)) = inside.last_mut() {
+            yes.pop();
+            *no = rest;
+        }
+    }
+}
+
+/// Whether something in a block's code goes to its end.
+fn leaves(code: &[Stmt], depth: usize) -> bool {
+    code.iter().any(|s| match s {
+        Stmt::Exit(k) => *k == depth,
+        Stmt::Block(c) | Stmt::Loop(c) => leaves(c, depth + 1),
+        s => inner(s).into_iter().any(|c| leaves(c, depth)),
+    })
+}
+
+fn one_block_less(code: &mut [Stmt], depth: usize) {
+    for s in code {
+        match s {
+            Stmt::Exit(k) if *k > depth => *k -= 1,
+            Stmt::Block(c) | Stmt::Loop(c) => one_block_less(c, depth + 1),
+            s => inner_mut(s).into_iter().for_each(|c| one_block_less(c, depth)),
+        }
+    }
+}
+
+/// Of a test that guards another one, which guards what leaves the block: the second is made only where the
+/// first holds, as C's && does too.
+fn both_tests(s: &mut Stmt) {
+    let Stmt::If(first, yes, no) = s else { return };
+    if let ([Stmt::If(second, both, other)], true) = (&mut yes[..], no.is_empty()) {
+        let is_left = both.last() == Some(&Stmt::Exit(0)) && other.is_empty();
+        if is_left && operations(first) + operations(second) < MOST_OPERATIONS {
+            let (a, b) = (Box::new(first.clone()), Box::new(second.clone()));
+            *s = Stmt::If(Expr::Op2(Op2::And, a, b), std::mem::take(both), vec![]);
+        }
     }
 }
 

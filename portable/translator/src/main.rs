@@ -1,14 +1,21 @@
-//! Writes the MIR that `rt mir NAME` prints, which is what was proved, as one file of portable C11.
+//! Writes the MIR of libraries, which is what was proved, as one file of portable C11, in two steps:
 //!
-//!     translator FILE.mir --sum TEXT [--sources DIR]..                             a program: its main
-//!     translator FILE.mir --sum TEXT [--sources DIR].. --header HEADER --crate NAME   a library: a function for each prototype of the header
+//!     translator link --library MIR.json .. --main SYMBOL [--called NAME]          a program: its main
+//!     translator link --library MIR.json .. --header HEADER --crate NAME           a library: a function for each prototype of the header
 //!
-//! The reading is in term.rs, types.rs, operations.rs and code.rs, one form of MIR in one place; flow.rs
-//! makes it short; write.rs and boundary.rs write it. names.rs has the sources' names. A form that it does
+//! takes together what is reached, and prints it as one term, whose sum stands in the C;
+//!
+//!     translator FILE.mir --sum TEXT [--sources DIR]..                             writes a program
+//!     translator FILE.mir --sum TEXT [--sources DIR].. --header HEADER --crate NAME   writes a library
+//!
+//! The first step is json.rs and link.rs. The reading of the second is in term.rs, types.rs, operations.rs and
+//! code.rs, one form of MIR in one place; flow.rs makes it short; write.rs and boundary.rs write it. names.rs has the sources' names. A form that it does
 //! not know ends it with a message and status 1, and nothing is written.
 mod boundary;
 mod code;
 mod flow;
+mod json;
+mod link;
 mod names;
 mod operations;
 mod term;
@@ -16,14 +23,14 @@ mod types;
 mod write;
 
 use boundary::{exported, foreign, main_of, prototypes, Prototype};
-use code::{Body, Expr, Function, Program, Stmt};
+use code::{Body, Constant, Expr, Function, Program, Stmt};
 use names::Names;
 use operations::Helpers;
 use std::collections::BTreeSet;
 use std::fmt::Write as _;
 use term::fail;
-use types::{c_name, Ty, Types};
-use write::{local_names, Writer};
+use types::{c_name, Shape, Ty, Types};
+use write::{float, local_names, Writer};
 
 /// The functions that some code calls.
 fn called<'c>(code: &'c [Stmt], found: &mut Vec<&'c str>) {
@@ -77,16 +84,22 @@ impl Output<'_> {
     }
 
     fn body(&mut self, p: &Program, names: &Names, symbol: &str, f: &Function, locals: Vec<String>, signature: &str) {
-        let bindings = names.functions.get(symbol).map_or(0, |(_, bound)| bound.len());
+        let bindings = names.functions.get(names::base(symbol)).map_or(0, |(_, bound)| bound.len());
         let mut strided = BTreeSet::new();
         let (text, used, defined) = {
             let ready = flow::ready(&self.types, p, f, bindings, self.table_names.len());
-            for (x, value) in &ready.tables {
-                let name = format!("{}_{}", c_name(symbol), locals[*x]);
-                self.tables += &table(&name, value, &f.locals[*x]);
+            for read in &ready.tables {
+                let mut name = String::new();
+                if let Some((x, value, t)) = read {
+                    name = format!("{}_{}", c_name(symbol), locals[*x]);
+                    while self.table_names.contains(&name) {
+                        name += "_";
+                    }
+                    self.tables += &table(&self.types, &name, value, t);
+                }
                 self.table_names.push(name);
             }
-            let defined: Vec<Ty> = ready.tables.iter().map(|(x, _)| f.locals[*x].clone()).collect();
+            let defined: Vec<Ty> = ready.tables.iter().flatten().map(|(_, _, t)| t.clone()).collect();
             let (text, used) = Writer::new(&ready, locals.clone(), &self.table_names, &mut self.helpers, &mut strided).written();
             (text, used, defined)
         };
@@ -125,24 +138,89 @@ impl Output<'_> {
     }
 }
 
-/// An array of constants, some in a line.
-fn table(name: &str, value: &Expr, t: &Ty) -> String {
-    let Expr::Aggregate(parts, _) = value else { return fail("a table", name) };
-    let mut text = format!("static const {} = {{{{", t.declared(name));
-    let mut width = 200;
+/// A constant of the file.
+fn table(types: &Types, name: &str, value: &Expr, t: &Ty) -> String {
+    let head = format!("static const {} = ", t.declared(name));
+    match value {
+        Expr::Aggregate(parts, _) => {
+            let number = |part: &Expr| match part {
+                Expr::Int(_, n) => n.to_string(),
+                _ => fail("a table of other than whole numbers", name),
+            };
+            head + &in_lines(parts.iter().map(number).collect()) + ";\n\n"
+        }
+        Expr::Lent(constant, _) => match (constant, t) {
+            (Constant::Parts(parts), Ty::Array(of, _)) => {
+                head + &in_lines(parts.iter().map(|part| initial(types, part, of, name, t)).collect()) + ";\n\n"
+            }
+            _ => head + &initial(types, constant, t, name, t) + ";\n\n",
+        },
+        _ => fail("a table", name),
+    }
+}
+
+/// An array's elements, some in a line. One without any has one that nothing reads.
+fn in_lines(parts: Vec<String>) -> String {
+    if parts.is_empty() {
+        return "{{0}}".into();
+    }
+    let (mut text, mut width) = ("{{".to_string(), 200);
     for part in parts {
-        let number = match part {
-            Expr::Int(_, n) => n.to_string(),
-            _ => fail("a table of other than whole numbers", name),
-        };
-        if width + number.len() + 2 > 108 {
+        if width + part.len() + 2 > 108 {
             text += "\n   ";
             width = 3;
         }
-        text += &format!(" {number},");
-        width += number.len() + 2;
+        text += &format!(" {part},");
+        width += part.len() + 2;
     }
-    text + "\n}};\n\n"
+    text + "\n}}"
+}
+
+/// What a constant of that type begins with, within the table of a name and a type.
+fn initial(types: &Types, constant: &Constant, t: &Ty, name: &str, whole: &Ty) -> String {
+    let joined = |parts: &[Constant], wanted: &[Ty]| -> String {
+        if parts.len() != wanted.len() {
+            fail::<()>("a constant's parts", name)
+        }
+        let all: Vec<String> =
+            parts.iter().zip(wanted).filter(|(_, w)| !types.empty(w)).map(|(p, w)| initial(types, p, w, name, whole)).collect();
+        if all.is_empty() {
+            "0".into()
+        } else {
+            all.join(", ")
+        }
+    };
+    match (constant, t) {
+        (Constant::Int(_, n), _) if *n > i64::MAX as u64 => format!("{n}ull"),
+        (Constant::Int(_, n), _) => n.to_string(),
+        (Constant::Float(bits), _) => float(*bits),
+        (Constant::Bool(b), _) => b.to_string(),
+        (Constant::Parts(parts), Ty::Array(of, n)) => {
+            format!("{{{{{}}}}}", joined(parts, &vec![(**of).clone(); *n as usize]))
+        }
+        (Constant::Repeat(one, n), Ty::Array(of, _)) => {
+            format!("{{{{{}}}}}", joined(&vec![(**one).clone(); *n as usize], &vec![(**of).clone(); *n as usize]))
+        }
+        (Constant::Parts(parts), Ty::Slice(..)) => format!("{{{}}}", joined(parts, &[t.pointer(), Ty::Int(64)])),
+        (Constant::Parts(parts), Ty::Named(symbol)) => match types.shape(symbol) {
+            Shape::Fields(fields) => format!("{{{}}}", joined(parts, fields)),
+            Shape::Variants(variants) => match parts.split_first() {
+                Some((Constant::Int(_, v), fields)) => {
+                    let (v, tag) = (*v as usize, types.variant_tag(symbol, *v as usize));
+                    match variants[v].iter().all(|f| types.empty(f)) {
+                        true => format!("{{.tag = {tag}}}"),
+                        false => format!("{{.{} = {{{tag}, {}}}}}", types.variant(symbol, v), joined(fields, &variants[v])),
+                    }
+                }
+                _ => fail("a constant's tag", name),
+            },
+        },
+        (Constant::Here(n), Ty::Ref(_, to)) => match types.path(whole, *n, to) {
+            Some(path) => format!("&{name}{path}"),
+            None => fail("a pointer into a constant", name),
+        },
+        _ => fail("a constant", name),
+    }
 }
 
 fn translate() {
@@ -153,6 +231,20 @@ fn translate() {
     let Some(file) = words.first() else {
         return fail("use", "translator FILE.mir --sum TEXT [--sources DIR].. [--header HEADER --crate NAME]");
     };
+    if file == "link" {
+        let mut libraries = link::Libraries::default();
+        all("--library").iter().for_each(|path| libraries.read(json::parse(&read(path))));
+        let (main, krate) = (option("--main").unwrap_or_default(), option("--crate").unwrap_or_default());
+        let from: Vec<String> = match option("--header") {
+            Some(header) => prototypes(&read(&header)).iter().map(|x| format!("{krate}::{}", x.name)).collect(),
+            None => vec![main.clone()],
+        };
+        let from: Vec<&str> = from.iter().map(String::as_str).collect();
+        let called = option("--called");
+        let renamed = called.as_deref().map(|name| (main.as_str(), name));
+        println!("{}", link::linked(&libraries, &from, called.as_deref().unwrap_or(&main), renamed));
+        return;
+    }
     let term = term::parse(&read(file));
     let p = code::program(&term);
     let mut names = Names::default();
@@ -178,7 +270,7 @@ fn translate() {
         out.bodies += &exported(&out.types, symbol, &p.functions[symbol], prototype);
     }
     if header.is_none() {
-        out.bodies += &main_of(&p.main, reached.contains("os::c::rattle_arg"));
+        out.bodies += &main_of(&out.types, &p.main, &p.functions[&p.main].locals[0], reached.contains("os::c::rattle_arg"));
     }
 
     let what = if header.is_some() { krate } else { p.main.split("::").next().unwrap_or("").to_string() };

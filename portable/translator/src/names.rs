@@ -28,6 +28,11 @@ pub fn safe(name: &str) -> String {
     }
 }
 
+/// A symbol without the types that it is at.
+pub fn base(symbol: &str) -> &str {
+    symbol.split(['<', '#']).next().unwrap_or(symbol)
+}
+
 /// A comment of C around some words, in lines of 110 columns.
 pub fn comment(words: &str) -> String {
     let mut text = String::from("/*");
@@ -45,23 +50,30 @@ pub fn comment(words: &str) -> String {
 }
 
 impl Names {
-    /// Reads the sources of all crates in a folder: DIR/CRATE/src/*.rt.
+    /// Reads the sources of all crates in a folder: DIR/CRATE/src/*.rt, and the folders there.
     pub fn read(&mut self, folder: &Path) {
         for krate in entries(folder) {
-            let name = file_stem(&krate);
-            for file in entries(&krate.join("src")).iter().filter(|f| f.extension().is_some_and(|e| e == "rt")) {
-                let module = match file_stem(file).as_str() {
-                    "lib" | "main" => name.clone(),
-                    module => format!("{name}::{module}"),
-                };
-                self.read_text(&module, &std::fs::read_to_string(file).unwrap_or_default());
+            self.read_modules(&file_stem(&krate), &krate.join("src"));
+        }
+    }
+
+    fn read_modules(&mut self, owner: &str, folder: &Path) {
+        for file in entries(folder) {
+            let module = match file_stem(&file).as_str() {
+                "lib" | "main" | "mod" => owner.to_string(),
+                module => format!("{owner}::{module}"),
+            };
+            if file.is_dir() {
+                self.read_modules(&module, &file);
+            } else if file.extension().is_some_and(|e| e == "rt") {
+                self.read_text(&module, &std::fs::read_to_string(&file).unwrap_or_default());
             }
         }
     }
 
     /// The symbol, with what the source says above it.
     pub fn comment(&self, symbol: &str) -> String {
-        match self.comments.get(symbol) {
+        match self.comments.get(base(symbol)) {
             Some(said) => comment(&format!("{symbol}. {said}")),
             None => comment(symbol),
         }
@@ -156,13 +168,19 @@ fn parameters(text: &str) -> Vec<String> {
     parts.iter().filter_map(|p| identifier(p.split_once(':').map_or(p.as_str(), |(name, _)| name))).collect()
 }
 
-/// What a body binds: by `let`, and by the patterns of `match` and `if let`.
+/// What a body binds: by `let`, by `for`, and by the patterns of `match` and `if let`. A `for` over a list also
+/// has a place in it, which has no name.
 fn bound(item: &[&str], indent: &str) -> Vec<String> {
     let opens = |l: &&str| **l == format!("{indent}{{") || l.starts_with(&format!("{indent})")) && l.ends_with('{');
     let from = item.iter().position(|l| opens(l) || without_marks(l.trim()).starts_with("fn ") && l.ends_with('{')).unwrap_or(item.len());
     let mut all = vec![];
     for line in item.iter().skip(from + 1).map(|l| l.trim()).filter(|l| !l.starts_with("//") && !l.starts_with('"')) {
-        if let Some((pattern, _)) = line.strip_prefix("if let ").and_then(|l| l.split_once(" = ")) {
+        if let Some((pattern, over)) = line.strip_prefix("for ").and_then(|l| l.split_once(" in ")) {
+            if !over.contains("..") {
+                all.push(String::new());
+            }
+            all.extend(in_pattern(pattern));
+        } else if let Some((pattern, _)) = line.strip_prefix("if let ").and_then(|l| l.split_once(" = ")) {
             all.extend(in_pattern(pattern));
         } else if let Some(rest) = line.strip_prefix("let ") {
             all.extend(identifier(rest.split(['=', ':']).next().unwrap_or("")));

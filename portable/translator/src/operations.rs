@@ -15,6 +15,8 @@ pub enum Op2 {
     Div,
     Rem,
     Shl,
+    And,
+    Or,
     Eq,
     Ne,
     Lt(bool),
@@ -36,6 +38,7 @@ pub enum Op1 {
     FloatNeg,
     IntToFloat(bool),
     FloatToBits,
+    TrailingZeros,
 }
 
 fn signed(sign: &Term) -> bool {
@@ -55,6 +58,8 @@ impl Op2 {
             ("div", [s]) if !signed(s) => Op2::Div,
             ("rem", [s]) if !signed(s) => Op2::Rem,
             ("shl", []) => Op2::Shl,
+            ("and", []) => Op2::And,
+            ("or", []) => Op2::Or,
             ("eq", []) => Op2::Eq,
             ("ne", []) => Op2::Ne,
             ("lt", [s]) => Op2::Lt(signed(s)),
@@ -104,6 +109,10 @@ impl Op2 {
             (Rem, Ty::Int(_)) => cut(format!("{a} % {b}")),
             // the proof has the count below the width
             (Shl, Ty::Int(_)) => cut(format!("{first} << {b}")),
+            (And, Ty::Int(_)) => cut(format!("{a} & {b}")),
+            (Or, Ty::Int(_)) => cut(format!("{a} | {b}")),
+            (And, Ty::Bool) => format!("{a} && {b}"),
+            (Or, Ty::Bool) => format!("{a} || {b}"),
             (Eq, Ty::Int(_)) => format!("{a} == {b}"),
             (Ne, Ty::Int(_)) | (FloatNe, Ty::Float) => format!("{a} != {b}"),
             (Lt(sign), Ty::Int(w)) => both("<", sign, *w),
@@ -127,6 +136,7 @@ impl Op1 {
             ("floatNeg", []) => Op1::FloatNeg,
             ("intToFloat", [s, f]) if f.number() == 64 => Op1::IntToFloat(signed(s)),
             ("floatToBits", []) => Op1::FloatToBits,
+            ("trailingZeros", []) => Op1::TrailingZeros,
             _ => o.unknown("an operation"),
         }
     }
@@ -137,6 +147,7 @@ impl Op1 {
             Op1::Cast(_, w) => Ty::Int(w),
             Op1::IntToFloat(_) => Ty::Float,
             Op1::FloatToBits => Ty::Int(64),
+            Op1::TrailingZeros => Ty::Int(32),
         }
     }
 
@@ -151,6 +162,7 @@ impl Op1 {
             (Op1::IntToFloat(true), Ty::Int(w)) => format!("(double){}", helpers.signed(a, *w)),
             (Op1::IntToFloat(false), Ty::Int(_)) => format!("(double){a}"),
             (Op1::FloatToBits, Ty::Float) => format!("{}({a})", helpers.used("bits", 64)),
+            (Op1::TrailingZeros, Ty::Int(w)) => format!("{}({a})", helpers.used("zeros", *w)),
             _ => return None,
         })
     }
@@ -160,6 +172,7 @@ impl Op1 {
 /// is the implementation's to define.
 const HELPERS: &[(&str, &str)] = &[
     ("s", "static inline int%_t s%(uint%_t x)\n{\n    int%_t y;\n    memcpy(&y, &x, sizeof y);\n    return y;\n}\n"),
+    ("zeros", "static inline uint32_t zeros%(uint%_t x)\n{\n    uint32_t n = 0;\n    while (n < % && !(x >> n & 1))\n        n++;\n    return n;\n}\n"),
     ("bits", "static inline uint%_t bits%(double x)\n{\n    uint%_t y;\n    memcpy(&y, &x, sizeof y);\n    return y;\n}\n"),
 ];
 

@@ -1,6 +1,7 @@
-//! The term that `rt mir NAME` prints, read into a tree: words, and brackets around a constructor and what it
-//! is given.
+//! A term of MIR, as link.rs makes it or as a file has it, read into a tree: words, and brackets around a
+//! constructor and what it is given.
 
+#[derive(Clone, PartialEq)]
 pub enum Term {
     Word(String),
     Node(Vec<Term>),
@@ -54,6 +55,7 @@ pub fn parse(text: &str) -> Term {
 impl std::fmt::Display for Term {
     fn fmt(&self, f: &mut std::fmt::Formatter) -> std::fmt::Result {
         match self {
+            Word(word) if word.contains([' ', '(', ')']) => write!(f, "\"{word}\""),
             Word(word) => write!(f, "{word}"),
             Node(terms) => {
                 write!(f, "(")?;

@@ -1,7 +1,7 @@
 //! Types of MIR: how they are read, how large they are there (the logic's Prog/Memory.antt), what they are
 //! called in C and how they are defined there. An integer is its bits, so it is unsigned; what reads it as
 //! signed says so (operations.rs).
-use crate::names::{safe, Names};
+use crate::names::{base, safe, Names};
 use crate::term::{fail, Term};
 use std::collections::{BTreeMap, BTreeSet};
 use std::fmt::Write;
@@ -59,9 +59,14 @@ pub fn shape(t: &Term) -> Shape {
     }
 }
 
-/// A symbol as a name in C.
+/// A symbol as a name in C; of one at types, with the types behind it.
 pub fn c_name(symbol: &str) -> String {
-    symbol.replace("::", "_").chars().map(|c| if c.is_ascii_alphanumeric() { c } else { '_' }).collect()
+    let plain: String = symbol.replace("::", "_").chars().map(|c| if c.is_ascii_alphanumeric() { c } else { '_' }).collect();
+    if symbol.contains(['<', '+', '#']) {
+        plain.split('_').filter(|word| !word.is_empty()).collect::<Vec<_>>().join("_")
+    } else {
+        plain
+    }
 }
 
 impl Ty {
@@ -88,7 +93,11 @@ impl Ty {
             Ty::Bool => "bool".into(),
             Ty::Float => "double".into(),
             Ty::Ptr => "unsigned char *".into(),
-            Ty::Ref(mutable, to) => format!("{}{} *", if *mutable { "" } else { "const " }, to.c()),
+            Ty::Ref(mutable, to) => match (mutable, to.c()) {
+                (true, of) => format!("{of} *"),
+                (false, of) if of.ends_with('*') => format!("{of}const *"),
+                (false, of) => format!("const {of} *"),
+            },
             Ty::Unit => "void".into(),
             Ty::Array(..) | Ty::Slice(..) | Ty::Named(_) => self.tag(),
         }
@@ -143,10 +152,12 @@ impl<'a> Types<'a> {
         }
     }
 
-    /// A type of no bytes: nothing of it is written.
+    /// A type of no bytes, or a reference to one, which nothing can read or write through: nothing of it is
+    /// written.
     pub fn empty(&self, t: &Ty) -> bool {
         match t {
             Ty::Unit => true,
+            Ty::Ref(_, to) => self.empty(to),
             Ty::Array(of, _) => self.empty(of),
             Ty::Named(symbol) => match self.shape(symbol) {
                 Shape::Fields(fields) => fields.iter().all(|f| self.empty(f)),
@@ -184,18 +195,47 @@ impl<'a> Types<'a> {
         }
     }
 
+    /// Where in a value of one type one of another lies that many bytes behind its beginning: the path to it in C.
+    pub fn path(&self, t: &Ty, bytes: u64, wanted: &Ty) -> Option<String> {
+        if bytes == 0 && t == wanted {
+            return Some(String::new());
+        }
+        match t {
+            Ty::Array(of, n) => {
+                let each = self.layout(of).0.max(1);
+                let k = (bytes / each).min(n.saturating_sub(1));
+                Some(format!(".e[{k}]{}", self.path(of, bytes - k * each, wanted)?))
+            }
+            Ty::Named(symbol) => match self.shape(symbol) {
+                Shape::Fields(fields) => {
+                    let (mut end, mut found) = (0u64, None);
+                    for (k, f) in fields.iter().enumerate() {
+                        let (size, align) = self.layout(f);
+                        let at = end.div_ceil(align) * align;
+                        end = at + size;
+                        let path = if found.is_none() && at <= bytes && bytes < end { self.path(f, bytes - at, wanted) } else { None };
+                        found = found.or(path.map(|path| format!(".{}{path}", self.field(symbol, k))));
+                    }
+                    found
+                }
+                Shape::Variants(_) => None,
+            },
+            _ => None,
+        }
+    }
+
     /// The name of a struct's field, by its place.
     pub fn field(&self, symbol: &str, k: usize) -> String {
-        self.names.fields.get(symbol).and_then(|names| names.get(k)).map_or(format!("f{k}"), |name| safe(name))
+        self.names.fields.get(base(symbol)).and_then(|names| names.get(k)).map_or(format!("f{k}"), |name| safe(name))
     }
 
     /// The name of a variant, and of one of its fields by its place behind the tag.
     pub fn variant(&self, symbol: &str, v: usize) -> String {
-        self.names.variants.get(symbol).and_then(|all| all.get(v)).map_or(format!("v{v}"), |(name, _)| safe(name))
+        self.names.variants.get(base(symbol)).and_then(|all| all.get(v)).map_or(format!("v{v}"), |(name, _)| safe(name))
     }
 
     pub fn variant_field(&self, symbol: &str, v: usize, k: usize) -> String {
-        let named = self.names.variants.get(symbol).and_then(|all| all.get(v)).and_then(|(_, fields)| fields.get(k));
+        let named = self.names.variants.get(base(symbol)).and_then(|all| all.get(v)).and_then(|(_, fields)| fields.get(k));
         named.map_or(format!("f{k}"), |name| safe(name))
     }
 

@@ -2,7 +2,7 @@
 //! statement of its own.
 use crate::code::{Expr, Function, Stmt};
 use crate::flow::{own, Ready, Scope};
-use crate::names::{safe, Names};
+use crate::names::{base, safe, Names};
 use crate::operations::{Helpers, Op2};
 use crate::term::fail;
 use crate::types::{c_name, Ty};
@@ -11,7 +11,7 @@ use std::collections::BTreeSet;
 /// The names of a function's locals: the source's, where they are found and no two are alike, else r, a1 ..
 /// for parameters and v2 .. for others.
 pub fn local_names(names: &Names, symbol: &str, f: &Function, globals: &BTreeSet<String>) -> Vec<String> {
-    let (params, bound) = names.functions.get(symbol).cloned().unwrap_or_default();
+    let (params, bound) = names.functions.get(base(symbol)).cloned().unwrap_or_default();
     let mut all = vec!["result".to_string()];
     for i in 1..f.locals.len() {
         let number = if i <= f.params { format!("a{i}") } else { format!("v{i}") };
@@ -20,7 +20,7 @@ pub fn local_names(names: &Names, symbol: &str, f: &Function, globals: &BTreeSet
             (_, Some(parameter)) => params.get(parameter - 1),
             (_, None) => bound.get(i - f.params - f.copies() - 1),
         };
-        let name = source.map_or(number.clone(), |name| safe(name));
+        let name = source.filter(|name| !name.is_empty()).map_or(number.clone(), |name| safe(name));
         let taken = |name: &String| all.contains(name) || globals.contains(name);
         // a name that is bound twice has its number behind it the second time
         all.push(if taken(&name) { format!("{name}_{i}") } else { name });
@@ -81,7 +81,7 @@ fn whole_call(text: &str) -> bool {
     name && open > 0 && closes.is_some_and(|(i, _)| i + 1 == text.len())
 }
 
-fn float(bits: u64) -> String {
+pub fn float(bits: u64) -> String {
     let x = f64::from_bits(bits);
     if !x.is_finite() {
         return fail("a constant that is not finite", &x.to_string());
@@ -210,11 +210,15 @@ impl<'r, 'a> Writer<'r, 'a> {
             }
             Expr::Op2(o, a, b) => self.op2(*o, a, b),
             Expr::AddrOf(p) => match &**p {
-                Expr::Deref(q, t) => self.pointer(q, t),
+                Expr::Deref(q, t) => match &**q {
+                    Expr::AddrOf(array) if matches!(self.ty(array), Ty::Array(of, _) if *of == *t) => self.part(array, "e"),
+                    _ => self.pointer(q, t),
+                },
                 _ => format!("&{}", self.value(p)),
             },
             Expr::Aggregate(xs, t) => self.aggregate(xs, t),
             Expr::Table(k, _) => self.tables[*k].clone(),
+            Expr::Lent(_, t) => fail("a constant that is no table", &t.tag()),
         }
     }
 
@@ -362,6 +366,11 @@ impl<'r, 'a> Writer<'r, 'a> {
     /// Writes a statement, and tells whether the code comes past it.
     fn statement(&mut self, s: &Stmt) -> bool {
         match s {
+            Stmt::Unreachable => {
+                self.line("for (;;) {");
+                self.line("}");
+                false
+            }
             Stmt::Return => {
                 let text = if self.empty(&self.scope().locals[0].clone()) {
                     "return;".into()
@@ -473,6 +482,16 @@ impl<'r, 'a> Writer<'r, 'a> {
     }
 
     fn switch(&mut self, x: &Expr, arms: &[(Vec<u64>, Vec<Stmt>)]) -> bool {
+        if let [(keys, first), (_, last)] = arms {
+            if let ([k], true) = (&keys[..], first.is_empty()) {
+                let Ty::Int(w) = self.ty(x) else { return fail("a switch", &self.ty(x).tag()) };
+                let text = self.op2(Op2::Ne, x, &Expr::Int(w, *k));
+                self.line(&format!("if ({text}) {{"));
+                self.inner(last);
+                self.line("}");
+                return true;
+            }
+        }
         let (mut word, mut past) = ("", false);
         for (keys, code) in arms {
             let tests: Vec<String> = keys.iter().map(|k| self.key(x, *k)).collect();

@@ -108,6 +108,32 @@ fn cases() -> Vec<Case> {
         ]);
         vec![set(0, &of("(int 32 0)")), format!("(block (loop {outer}))")]
     };
+    let less = |local: usize, a: &str, b: &str| set(local, &op2("(lt unsigned)", a, b));
+    let plus = |n: u32| set(0, &op2("(add unsigned)", &copy(0), &format!("(int 32 {n})")));
+    let truths = |op: &str| {
+        let is = |local: usize, a: &str| set(local, &op2("eq", a, "(int 32 1)"));
+        vec![
+            is(3, &x),
+            is(4, &y),
+            set(5, &op2(op, &copy(3), &copy(4))),
+            format!("(if {} {} {})", copy(5), set(0, &of("(int 32 1)")), set(0, &of("(int 32 0)"))),
+        ]
+    };
+    let two_blocks = || {
+        let inner = seq(&[less(3, &x, &y), format!("(if {} (exit 1) skip)", copy(3)), plus(10)]);
+        vec![set(0, &of("(int 32 1)")), format!("(block {})", seq(&[format!("(block {inner})"), plus(100)]))]
+    };
+    let one_or_other = || {
+        let one = seq(&[plus(7), "(exit 0)".into()]);
+        let block = seq(&[less(3, &x, &y), format!("(if {} {one} skip)", copy(3)), plus(20)]);
+        vec![set(0, &of("(int 32 0)")), format!("(block {block})")]
+    };
+    let both_tests = || {
+        let both = seq(&[plus(1), "(exit 0)".into()]);
+        let second = seq(&[less(4, &y, "(int 32 7)"), format!("(if {} {both} skip)", copy(4))]);
+        let first = seq(&[less(3, &x, "(int 32 5)"), format!("(if {} {second} skip)", copy(3)), plus(100)]);
+        vec![set(0, &of("(int 32 0)")), format!("(block {first})")]
+    };
     vec![
         // a copy in memory that is written through its address: what is read behind that is not what was
         // copied
@@ -215,6 +241,13 @@ fn cases() -> Vec<Case> {
             (7, 7),
             1,
         ),
+        // bit by bit, of numbers and of truths
+        case("bits_of_both", &[], vec![set(0, &op2("and", &x, &y))], (12, 10), 8),
+        case("bits_of_either", &[], vec![set(0, &op2("or", &x, &y))], (12, 10), 14),
+        case("both_truths", &["tyBool", "tyBool", "tyBool"], truths("and"), (0, 1), 0),
+        case("either_truth", &["tyBool", "tyBool", "tyBool"], truths("or"), (0, 1), 1),
+        case("trailing_zeros", &[], vec![set(0, &format!("(op1 trailingZeros {x})"))], (24, 0), 3),
+        case("trailing_zeros_of_none", &[], vec![set(0, &format!("(op1 trailingZeros {x})"))], (0, 0), 32),
         // 0 / 0 differs from itself
         case(
             "not_a_number",
@@ -245,6 +278,16 @@ fn cases() -> Vec<Case> {
         case("leave_the_inner_loop", &["tyBool"], exits(1), (150, 0), 351),
         case("turn_the_outer_loop", &["tyBool"], exits(2), (150, 0), 351),
         case("leave_both_loops", &["tyBool"], exits(3), (150, 0), 150),
+        // out of two blocks at once, past what is behind the inner one; and not
+        case("leave_two_blocks", &["tyBool"], two_blocks(), (3, 4), 1),
+        case("leave_no_block", &["tyBool"], two_blocks(), (4, 3), 111),
+        // what is behind a test that leaves the block is for the other answer
+        case("one_answer", &["tyBool"], one_or_other(), (3, 4), 7),
+        case("the_other_answer", &["tyBool"], one_or_other(), (4, 3), 20),
+        // the second test is made where the first holds, and both have to
+        case("both_tests", &["tyBool", "tyBool"], both_tests(), (4, 6), 1),
+        case("only_the_first_test", &["tyBool", "tyBool"], both_tests(), (4, 7), 100),
+        case("only_the_second_test", &["tyBool", "tyBool"], both_tests(), (5, 6), 100),
         // an array of constants that is only read may be a table of the file
         case(
             "table",
