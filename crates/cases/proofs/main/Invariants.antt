@@ -1,8 +1,6 @@
 -- `cases::main` ends: a turn takes one off what is left. Assumes nothing.
-use mathlib.Core.Path.{◌≡◌, sym, ◌∙◌}
-use native.Mathlib.Omega.{arith}
+use mathlib.Core.Path.{◌≡◌}
 use lib.ListN.{length}
-use borrow.Author.Rules.{rules}
 use Rattle.cases.proofs.main.Given as goal
 
 abbrev pub invariant-loop-left : goal.invariant-loop-left

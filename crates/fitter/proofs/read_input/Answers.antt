@@ -1,12 +1,9 @@
 -- `fitter::read_input` meets its contract: the records taken are those of the input that they are put together to. Assumes nothing.
-use mathlib.Core.Path.{◌≡◌, sym, ◌∙◌}
+use mathlib.Core.Path.{sym, ◌∙◌}
 use mathlib.Core.Logic.{⊎_elim}
 use mathlib.Core.Bool.{true≢false}
 use native.Mathlib.Omega.{arith}
-use lib.ListN.{length}
-use Rattle.sheet.specs.Step.{Near}
-use Rattle.sheet.proofs.Gluing.{Reads, reads_starts, reads_go_on, reads_stop, reads_close}
-use borrow.Author.Rules.{rules}
+use Rattle.sheet.proofs.Gluing.{reads_starts, reads_go_on, reads_stop, reads_close}
 use Rattle.fitter.proofs.read_input.Goals as goal
 
 pub loop-left-init : goal.loop-left-init

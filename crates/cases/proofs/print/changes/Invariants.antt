@@ -1,6 +1,5 @@
 -- `cases::print::changes` is safe. Assumes nothing.
 use Prim.Native.Nat.{◌-◌, ◌≤◌}
-use borrow.Author.Rules.{rules}
 use Rattle.cases.proofs.print.changes.Given as goal
 
 abbrev pub invariant-loop-i : goal.invariant-loop-i
