@@ -12,7 +12,7 @@ use lib.ListN.{length, take, drop}
 use Rattle.answer.specs.Answer.{Answer, refused, given, accepted, number, place, ◌then◌}
 use Rattle.answer.proofs.Never.{Never, given_never, never_then, never_refuse, never_number}
 use Rattle.card.specs.Answers.{own}
-use Rattle.book.specs.Book.{Entry, entry_at, closes, holds, next, ◌giving◌, scan, rising, book}
+use Rattle.book.specs.Book.{Entry, entry_at, closes, holds, next, long, ◌giving◌, scan, rising, book}
 use Rattle.book.specs.Lookup.{held, look_up, part, before, rooms, spot_at, spot}
 use Rattle.book.specs.declared.Spot.{Spot}
 use Rattle.book.proofs.Answers.{handed, looked_up}
