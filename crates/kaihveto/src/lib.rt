@@ -23,7 +23,7 @@ ghost use Rattle.preheat.specs.Preheat.{preheat, heated};
 ghost use Rattle.writer.specs.Promise.{Writes};
 ghost use Rattle.refit.specs.Promise.{Refits};
 ghost use Rattle.holes.specs.Hole.{mended};
-ghost use Rattle.mend.specs.Changes.{changes as changes-of};
+ghost use Rattle.mend.specs.Changes.{changes as changes_of};
 ghost use Rattle.mend.specs.Order.{mend};
 ghost use Rattle.mend.specs.Promise.{Mends};
 ghost use Rattle.book.specs.Lookup.{spot};
@@ -278,7 +278,7 @@ pub extern "C" fn kaihveto_mend<'a>(
 ) -> mend::Mended
     ensures { Mends
         (mend minutes.now ordinates.old (length slopes.old) (length curvatures.old) (length changes.old))
-        (changes-of ordinates.old (mended minutes.now ordinates.old))
+        (changes_of ordinates.old (mended minutes.now ordinates.old))
         ordinates.old slopes.old curvatures.old changes.old
         ordinates.new slopes.new curvatures.new changes.new result }
 {
