@@ -1,7 +1,7 @@
 -- What the page says of looking up in a book: the answer's number, place and zeros, the part that is handed back, and that no jump refuses a card near an exact solution; and which
 -- numbers the orders of a book never refuse with. Document 02, orders 3 and 11.
 -- Assumes nothing.
-use Prim.Native.Nat.{ℕ, zero, suc, ◌+◌}
+use Prim.Native.Nat.{◌≤◌, ℕ, zero, suc, ◌+◌}
 use mathlib.Core.Path.{◌≡◌, refl, sym, ap, subst, ◌∙◌}
 use mathlib.Core.Logic.{◌≢◌}
 use mathlib.Core.Bool.{Bool, true, false, cond}
@@ -12,7 +12,7 @@ use lib.ListN.{length, take, drop}
 use Rattle.answer.specs.Answer.{Answer, refused, given, accepted, number, place, ◌then◌}
 use Rattle.answer.proofs.Never.{Never, given_never, never_then, never_refuse, never_number}
 use Rattle.card.specs.Answers.{own}
-use Rattle.book.specs.Book.{Entry, entry_at, closes, holds, next, ◌giving◌, scan, rising, book}
+use Rattle.book.specs.Book.{Entry, entry_at, closes, holds, next, long, ◌giving◌, scan, rising, book}
 use Rattle.book.specs.Lookup.{held, look_up, part, before, rooms, spot_at, spot}
 use Rattle.book.specs.declared.Spot.{Spot}
 use Rattle.book.proofs.Answers.{handed, looked_up}
@@ -50,7 +50,7 @@ module _ (n : ℕ) where
     rising_never : (low at : ℕ) (es : List Entry) → Never n (rising low at es)
     unfolding rising
     rising_never low at [] = given_never
-    rising_never low at (e ∷ es) = never_then (never_refuse n 22 at _ not-22) (rising_never _ _ es)
+    rising_never low at (e ∷ es) = never_then (never_refuse n 22 at _ not-22) (rising_never (suc e.room) _ es)
 
     book_never : Never n (book s)
     unfolding book
@@ -114,7 +114,7 @@ handed_back c =
     let s = the_book c in
     let answers = find_answers room s c.promised in
     record {
-      inside = rw c.promised (handed room s).inside;
+      inside = subst (λ (r : Spot). r.start + r.length ≤ length s) (sym c.promised) (handed room s).inside;
       its_card = λ z.
           let g = answers.0.accepts z in
           let l = looked_up room s g.is in

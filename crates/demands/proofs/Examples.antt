@@ -15,7 +15,8 @@ use lib.IntN.{ℤ, pos}
 use lib.ListN.{length, get_or, drop, length-append}
 use lib.Seq.{get_or-drop}
 use base.Fml.{Lft, GName}
-use denote.Ref.{MutBor}
+use denote.Bor.{Bor}
+use denote.MutBor.{MutBor}
 use Rattle.answer.specs.Answer.{Answer, refused, given, accepted, ◌then◌, refuse, number}
 use Rattle.answer.specs.Lent.{lent_after}
 use Rattle.answer.proofs.Steps.{not_both, first_accepts, next_accepts, both_accept, accepts_refuse}
@@ -262,15 +263,19 @@ left_typed =
     rw puts (bytes_append (book_bytes (entry 3 bytes ∷ [])) _ all (bytes_behind (book-size (entry 3 bytes ∷ [])) empty_book empty_typed))
 
 module _ (lifetime : Lft) (pointer : ℕ × ℕ) (name : GName) where
+  -- a list that is lent to be written, and one that is lent to be read
   abbrev list : {A : Type 0} → List A → MutBor (List A)
   list l = record { ref_ptr = pointer; ghost_name = name; now = l }
+
+  abbrev shared : {A : Type 0} → List A → Bor (List A)
+  shared l = record { ref_ptr = pointer; now = l }
 
   -- into lists of just the knots' places
   abbrev pub fit_call : AFit
   fit_call =
       let f = fit p1.minutes p1.ordinates (length p1.slopes) (length p1.curvatures) in
-      let xs = list p1.minutes in
-      let ys = list p1.ordinates in
+      let xs = shared p1.minutes in
+      let ys = shared p1.ordinates in
       record {
         lifetimes = (lifetime, (lifetime, (lifetime, (lifetime, tt))));
         arguments = (xs, (ys, (list p1.slopes, (list p1.curvatures, tt))));
@@ -287,8 +292,8 @@ module _ (lifetime : Lft) (pointer : ℕ × ℕ) (name : GName) where
   abbrev pub fit_between_call : AFitBetween
   fit_between_call =
       let f = fit_codes p1.minutes p1.ordinates (length p1.slopes) (length p1.curvatures) 0 f0 f0 0 f0 f0 in
-      let xs = list p1.minutes in
-      let ys = list p1.ordinates in
+      let xs = shared p1.minutes in
+      let ys = shared p1.ordinates in
       record {
         lifetimes = (lifetime, (lifetime, (lifetime, (lifetime, tt))));
         arguments = (xs, (ys, (list p1.slopes, (list p1.curvatures, (0, (f0, (f0, (0, (f0, (f0, tt))))))))));
@@ -313,9 +318,9 @@ module _ (lifetime : Lft) (pointer : ℕ × ℕ) (name : GName) where
   abbrev pub fit_slopes_call : AFitSlopes
   fit_slopes_call =
       let f = slopes_fit p1.minutes p1.ordinates p1.slopes (length p1.curvatures) in
-      let xs = list p1.minutes in
-      let ys = list p1.ordinates in
-      let ms = list p1.slopes in
+      let xs = shared p1.minutes in
+      let ys = shared p1.ordinates in
+      let ms = shared p1.slopes in
       record {
         lifetimes = (lifetime, (lifetime, (lifetime, (lifetime, tt))));
         arguments = (xs, (ys, (ms, (list p1.curvatures, tt))));
@@ -335,10 +340,10 @@ module _ (lifetime : Lft) (pointer : ℕ × ℕ) (name : GName) where
   abbrev pub write_slopes_call : AWriteSlopes
   write_slopes_call =
       let v = write_order sloped sloped_p1 (length sloped_bytes) in
-      let xs = list p1.minutes in
-      let ys = list p1.ordinates in
-      let ms = list p1.slopes in
-      let Ms = list p1.curvatures in
+      let xs = shared p1.minutes in
+      let ys = shared p1.ordinates in
+      let ms = shared p1.slopes in
+      let Ms = shared p1.curvatures in
       record {
         lifetimes = (lifetime, (lifetime, (lifetime, (lifetime, (lifetime, tt)))));
         arguments = (xs, (ys, (ms, (Ms, (list sloped_bytes, tt)))));
@@ -358,9 +363,9 @@ module _ (lifetime : Lft) (pointer : ℕ × ℕ) (name : GName) where
   check_slopes_call =
       record {
         lifetimes = (lifetime, tt);
-        arguments = (list sloped_bytes, tt);
+        arguments = (shared sloped_bytes, tt);
         answer = checked (own sloped_bytes) (kind_by sloped_bytes) (card_of sloped_bytes);
-        exit = (list sloped_bytes, tt);
+        exit = (shared sloped_bytes, tt);
         promised = (refl, card_bytes sloped sloped_p1);
       }
 
@@ -375,7 +380,7 @@ module _ (lifetime : Lft) (pointer : ℕ × ℕ) (name : GName) where
   -- it is read off, and its curvatures are within 2 units of the one exact solution
   abbrev pub reading_slopes_call : AReading
   reading_slopes_call =
-      record { lifetimes = (lifetime, tt); arguments = (list sloped_bytes, (4, tt)); answer = read_off sloped_bytes 4; exit = (list sloped_bytes, (4, tt)); promised = refl }
+      record { lifetimes = (lifetime, tt); arguments = (shared sloped_bytes, (4, tt)); answer = read_off sloped_bytes 4; exit = (shared sloped_bytes, (4, tt)); promised = refl }
 
   pub reading_slopes_accepts : reading_slopes_call.answer.number ≡ 0
   reading_slopes_accepts = ((hold-all.three.off check_slopes_call check_slopes_accepts).close reading_slopes_call refl on_the_sloped_bytes).0
@@ -385,7 +390,7 @@ module _ (lifetime : Lft) (pointer : ℕ × ℕ) (name : GName) where
 
   abbrev pub mean_call : AMean
   mean_call =
-      record { lifetimes = (lifetime, tt); arguments = (60, (list log_of_p8, tt)); answer = Log-answers.answered (mean 60 log_of_p8); exit = (60, (list log_of_p8, tt)); promised = (refl, log_typed) }
+      record { lifetimes = (lifetime, tt); arguments = (60, (shared log_of_p8, tt)); answer = Log-answers.answered (mean 60 log_of_p8); exit = (60, (shared log_of_p8, tt)); promised = (refl, log_typed) }
 
   pub mean_accepts : mean_call.answer.number ≡ 0
   unfolding Log-answers.answered
@@ -401,9 +406,9 @@ module _ (lifetime : Lft) (pointer : ℕ × ℕ) (name : GName) where
       let made = changes ys (mended xs ys) in
       record {
         lifetimes = (lifetime, tt);
-        arguments = (list xs, (list ys, (list line.slopes, (list line.curvatures, (list cs, tt)))));
+        arguments = (shared xs, (list ys, (list line.slopes, (list line.curvatures, (list cs, tt)))));
         answer = Mended.answered v made;
-        exit = (list xs, (list (ordinates_after v ys), (list (slopes_after v line.slopes), (list (curvatures_after v line.curvatures), (list (list_after v made cs), tt)))));
+        exit = (shared xs, (list (ordinates_after v ys), (list (slopes_after v line.slopes), (list (curvatures_after v line.curvatures), (list (list_after v made cs), tt)))));
         promised = record { answer = refl; ordinates = refl; slopes = refl; curvatures = refl; changes = refl };
       }
 
@@ -421,9 +426,9 @@ module _ (lifetime : Lft) (pointer : ℕ × ℕ) (name : GName) where
       let v = refit (length p1.slopes) (length p1.curvatures) bytes in
       record {
         lifetimes = (lifetime, (lifetime, (lifetime, tt)));
-        arguments = (list bytes, (list p1.slopes, (list p1.curvatures, tt)));
+        arguments = (shared bytes, (list p1.slopes, (list p1.curvatures, tt)));
         answer = refitted (card_of bytes) v;
-        exit = (list bytes, (list (Refit.after v (λ d. d.slopes) p1.slopes), (list (Refit.after v (λ d. d.curvatures) p1.curvatures), tt)));
+        exit = (shared bytes, (list (Refit.after v (λ d. d.slopes) p1.slopes), (list (Refit.after v (λ d. d.curvatures) p1.curvatures), tt)));
         promised = record { answer = refl; slopes = refl; curvatures = refl };
       }
 
@@ -439,14 +444,14 @@ module _ (lifetime : Lft) (pointer : ℕ × ℕ) (name : GName) where
       subst (λ K. HalfAUnit K (worked_out (anew refit_call))) (sym its_kind) (subst (HalfAUnit quintic) is p1_is_near)
 
   abbrev pub check_call : ACheck
-  check_call = record { lifetimes = (lifetime, tt); arguments = (list bytes, tt); answer = checked (own bytes) (kind_by bytes) (card_of bytes); exit = (list bytes, tt); promised = (refl, card_bytes quintic p1) }
+  check_call = record { lifetimes = (lifetime, tt); arguments = (shared bytes, tt); answer = checked (own bytes) (kind_by bytes) (card_of bytes); exit = (shared bytes, tt); promised = (refl, card_bytes quintic p1) }
 
   pub check_accepts : check_call.answer.number ≡ 0
   unfolding checked
   check_accepts = ap (λ v. (checked v (kind_by bytes) (card_of bytes)).number) bytes_accepted
 
   abbrev pub reading_call : AReading
-  reading_call = record { lifetimes = (lifetime, tt); arguments = (list bytes, (4, tt)); answer = read_off bytes 4; exit = (list bytes, (4, tt)); promised = refl }
+  reading_call = record { lifetimes = (lifetime, tt); arguments = (shared bytes, (4, tt)); answer = read_off bytes 4; exit = (shared bytes, (4, tt)); promised = refl }
 
   pub reading_accepts : reading_call.answer.number ≡ 0
   reading_accepts = ((hold-all.three.off check_call check_accepts).close reading_call refl on_the_bytes).0
@@ -457,13 +462,13 @@ module _ (lifetime : Lft) (pointer : ℕ × ℕ) (name : GName) where
   reading_looks = ((hold-all.three.off check_call check_accepts).looks reading_call refl on_the_bytes).counted ∙ ap (λ c. (found c.minutes 4).looks) table_3_bytes.2
 
   abbrev pub preheat_call : APreheat
-  preheat_call = record { lifetimes = (lifetime, tt); arguments = (list example, (10, (14, tt))); answer = heated-at example 10 14; exit = (list example, (10, (14, tt))); promised = refl }
+  preheat_call = record { lifetimes = (lifetime, tt); arguments = (shared example, (10, (14, tt))); answer = heated-at example 10 14; exit = (shared example, (10, (14, tt))); promised = refl }
 
   pub preheat_is : preheat_call.answer ≡ record { number = 0; place = 0; value = pos 2142 }
   preheat_is = example_at_14
 
   abbrev pub explain_call : AExplain
-  explain_call = record { lifetimes = (lifetime, tt); arguments = (list bytes, (4, tt)); answer = explain bytes 4; exit = (list bytes, (4, tt)); promised = refl }
+  explain_call = record { lifetimes = (lifetime, tt); arguments = (shared bytes, (4, tt)); answer = explain bytes 4; exit = (shared bytes, (4, tt)); promised = refl }
 
   pub explain_accepts : explain_call.answer.number ≡ 0
   explain_accepts = ((hold-all.three.off check_call check_accepts).explains explain_call refl on_the_bytes).0
@@ -472,10 +477,10 @@ module _ (lifetime : Lft) (pointer : ℕ × ℕ) (name : GName) where
   abbrev pub write_call : AWrite
   write_call =
       let v = write_order quintic p1 (length bytes) in
-      let xs = list p1.minutes in
-      let ys = list p1.ordinates in
-      let ms = list p1.slopes in
-      let Ms = list p1.curvatures in
+      let xs = shared p1.minutes in
+      let ys = shared p1.ordinates in
+      let ms = shared p1.slopes in
+      let Ms = shared p1.curvatures in
       record {
         lifetimes = (lifetime, (lifetime, (lifetime, (lifetime, (lifetime, tt)))));
         arguments = (xs, (ys, (ms, (Ms, (p1.left, (p1.right, (list bytes, tt)))))));
@@ -500,10 +505,10 @@ module _ (lifetime : Lft) (pointer : ℕ × ℕ) (name : GName) where
       let c = card_of bytes in
       record {
         lifetimes = (lifetime, (lifetime, (lifetime, (lifetime, (lifetime, tt)))));
-        arguments = (list bytes, (list p1.minutes, (list p1.ordinates, (list p1.slopes, (list p1.curvatures, tt)))));
+        arguments = (shared bytes, (list p1.minutes, (list p1.ordinates, (list p1.slopes, (list p1.curvatures, tt)))));
         answer = checked v (kind_by bytes) c;
         exit = (
-          list bytes,
+          shared bytes,
           (
             list (lent_after v c.minutes p1.minutes),
             (
@@ -527,10 +532,10 @@ module _ (lifetime : Lft) (pointer : ℕ × ℕ) (name : GName) where
       let column = list p1.slopes in
       record {
         lifetimes = (lifetime, (lifetime, (lifetime, (lifetime, tt))));
-        arguments = (list bytes, (4, (column, (column, (column, tt)))));
+        arguments = (shared bytes, (4, (column, (column, (column, tt)))));
         answer = tabled v n;
         exit = (
-          list bytes,
+          shared bytes,
           (
             4,
             (
@@ -547,7 +552,7 @@ module _ (lifetime : Lft) (pointer : ℕ × ℕ) (name : GName) where
   table_accepts = ap (λ v. (tabled v (rows columns_for bytes 4)).number) tables
 
   abbrev pub swing_call : ASwing
-  swing_call = record { lifetimes = (lifetime, tt); arguments = (list bytes, tt); answer = swung (own bytes) (card_of bytes); exit = (list bytes, tt); promised = refl }
+  swing_call = record { lifetimes = (lifetime, tt); arguments = (shared bytes, tt); answer = swung (own bytes) (card_of bytes); exit = (shared bytes, tt); promised = refl }
 
   -- 65 hundredths below its first gap's knots, at minute 6
   pub swing_is : swing_call.answer ≡ record { number = 0; place = 0; knot = 0; minute = 6; below = 65; above = 0 }
@@ -558,9 +563,9 @@ module _ (lifetime : Lft) (pointer : ℕ × ℕ) (name : GName) where
       let v = Put.put 3 bytes empty_book in
       record {
         lifetimes = (lifetime, (lifetime, tt));
-        arguments = (list empty_book, (3, (list bytes, tt)));
+        arguments = (list empty_book, (3, (shared bytes, tt)));
         answer = in_use v;
-        exit = (list (after v empty_book), (3, (list bytes, tt)));
+        exit = (list (after v empty_book), (3, (shared bytes, tt)));
         promised = (record { answer = refl; buffer = refl }, (empty_typed, room_typed));
       }
 
@@ -572,7 +577,7 @@ module _ (lifetime : Lft) (pointer : ℕ × ℕ) (name : GName) where
   abbrev pub find_call : ABookFind
   find_call =
       let s = after (Put.put 3 bytes empty_book) empty_book in
-      record { lifetimes = (lifetime, tt); arguments = (list s, (3, tt)); answer = spot 3 s; exit = (list s, (3, tt)); promised = refl }
+      record { lifetimes = (lifetime, tt); arguments = (shared s, (3, tt)); answer = spot 3 s; exit = (shared s, (3, tt)); promised = refl }
 
   pub find_accepts : find_call.answer.number ≡ 0
   find_accepts = (hold-all.two.put_is_found put_call find_call put_accepts refl refl).0

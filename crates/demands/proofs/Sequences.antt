@@ -87,7 +87,7 @@ put_and_out p c z absent same room =
       (change_answers (by_removal c)).0.accepted (record { what = g.what; is = again ∙ g.gave }),
       ap book left ∙ k.rooms,
       bytes,
-      rw bytes (ap (take (in_use (book s)).bytes) left ∙ k.bytes),
+      subst (λ n. take n (out_book' c) ≡ take n (put_book p)) (sym bytes) (ap (take (in_use (book s)).bytes) left ∙ k.bytes),
     )
 
 -- ---- the history
