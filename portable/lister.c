@@ -1,6 +1,6 @@
 /* lister in portable C11. This file is written by portable/write and not by hand: it is the MIR of the crate lister
    as C, and that MIR is what the prover has proved. SHA-256 of the MIR:
-   500074a3be5d81edd38ff05a054bf9aa433fa96605045705e431bc02602dfeb1
+   876b101c02af264e4315e590455fabfb50314602f9cf5504d6eb0b4efb9ac5c1
    Not proved: this translation and the C compiler; docs/TRUST.md says what was compared, and where.
 
    Names are the sources'. An integer is its bits, so it is unsigned, and s64(x) is the signed number of x's bits. A list
@@ -39,13 +39,13 @@ _Static_assert(CHAR_BIT == 8 && sizeof(bool) == 1 && sizeof(int) >= 4 && sizeof(
 
 enum { answer_Judged_Accepted, answer_Judged_Refused };
 typedef union answer_Judged answer_Judged;
-typedef struct list_u8 list_u8;
 typedef struct card_Checked card_Checked;
 typedef struct knots_Kind knots_Kind;
 typedef struct array_u16_64 array_u16_64;
 typedef struct array_u32_64 array_u32_64;
 typedef struct decode_Card decode_Card;
 typedef struct opened_Opened opened_Opened;
+typedef struct list_u8 list_u8;
 typedef struct mut_list_u16 mut_list_u16;
 typedef struct mut_list_u32 mut_list_u32;
 typedef struct record_Cursor record_Cursor;
@@ -74,11 +74,6 @@ union answer_Judged {
         uint32_t f0;
         uint32_t f1;
     } Refused;
-};
-
-struct list_u8 {
-    const uint8_t *at;
-    uint64_t length;
 };
 
 /* card::Checked. The kind of card is its head's: 1 or 6. Zeros behind a refusal. */
@@ -124,6 +119,11 @@ struct opened_Opened {
     answer_Judged verdict;
     knots_Kind kind;
     decode_Card card;
+};
+
+struct list_u8 {
+    const uint8_t *at;
+    uint64_t length;
 };
 
 struct mut_list_u16 {
@@ -248,18 +248,22 @@ static inline int64_t s64(uint64_t x)
     return y;
 }
 
-static const array_u8_8 listing_refused_line_v7 = {{
+static const array_u8_0 card_listing_list_card_v26 = {{0}};
+
+static const array_u8_3 listing_accepted_line_v7 = {{
+    111, 107, 32,
+}};
+
+static const array_u8_8 listing_refused_line_v9 = {{
     114, 101, 102, 117, 115, 101, 100, 32,
+}};
+
+static const array_u8_4 listing_refused_line_v15 = {{
+    32, 97, 116, 32,
 }};
 
 static answer_Judged answer_first(answer_Judged step, answer_Judged next);
 static answer_Judged answer_refuse(uint32_t number, uint32_t place, bool test);
-static uint16_t bytes_read_i16(list_u8 list, uint64_t at);
-static uint32_t bytes_read_i32(list_u8 list, uint64_t at);
-static uint16_t bytes_read_u16(list_u8 list, uint64_t at);
-static uint32_t bytes_read_u32(list_u8 list, uint64_t at);
-static uint16_t bytes_signed16(uint16_t bits);
-static uint32_t bytes_signed32(uint32_t bits);
 static card_Checked card_Checked_of(answer_Judged verdict, knots_Kind kind, decode_Card card);
 static answer_Judged card_into(opened_Opened opened, uint64_t minutes, uint64_t ordinates, uint64_t slopes, uint64_t curvatures);
 static card_Checked card_read(list_u8 card, mut_list_u16 minutes, mut_list_u16 ordinates, mut_list_u32 slopes, mut_list_u32 curvatures);
@@ -280,13 +284,10 @@ static void decode_Card_give(decode_Card self, mut_list_u16 minutes, mut_list_u1
 static decode_Card decode_Card_none(void);
 static decode_Card decode_Card_of(list_u8 list);
 static array_u8_4096 io_buffer(void);
-static uint64_t io_clamp(uint64_t got, uint64_t most);
-static void io_copy(list_u8 src, uint64_t from, mut_list_u8 dst, uint64_t to, uint64_t n);
-static uint64_t io_least(uint64_t a, uint64_t b);
+static uint64_t io_clamp(uint64_t ret, uint64_t most);
+static uint64_t io_min_len(uint64_t a, uint64_t b);
 static uint64_t io_read_full(uint32_t fd, mut_list_u8 buf);
-static uint64_t io_read_to(uint32_t fd, mut_list_u8 buf, uint64_t to, mut_list_u8 chunk);
 static bool io_write_all(uint32_t fd, list_u8 buf);
-static uint64_t io_write_from(uint32_t fd, list_u8 buf, uint64_t from, mut_list_u8 chunk);
 static jumps_Span jumps_Span_none(void);
 static jumps_Spans jumps_Spans_none(void);
 static jumps_Spans jumps_Spans_of(bool asked, uint64_t square, uint64_t h, gaps_Knot a, gaps_Knot b);
@@ -308,8 +309,8 @@ static answer_Judged knots_same_lengths(uint64_t n, uint64_t ys, uint64_t ms, ui
 static bool knots_slope_beyond(list_u32 ms, uint64_t i);
 static answer_Judged knots_stand(list_u16 xs, list_u16 ys);
 static uint32_t knots_stands_at(list_u16 xs, list_u16 ys, uint64_t i);
-static uint64_t libc_read(uint32_t fd, mut_list_u8 buf);
-static uint64_t libc_write(uint32_t fd, list_u8 buf);
+static uint64_t libc_read(uint32_t a1, mut_list_u8 a2);
+static uint64_t libc_write(uint32_t a1, list_u8 a2);
 static void lister_main(void);
 static uint64_t listing_accepted_line(mut_list_u8 text, uint64_t at, uint32_t knots);
 static uint64_t listing_counted_line(mut_list_u8 text, uint64_t at, uint16_t x, uint32_t y, uint32_t m, uint32_t c, uint32_t count);
@@ -329,6 +330,12 @@ static uint32_t lists_rough_at(knots_Kind kind, uint16_t code, jumps_Spans befor
 static answer_Judged lists_smooth(knots_Kind kind, uint16_t left, uint16_t right, list_u16 xs, list_u16 ys, list_u32 ms, list_u32 cs);
 static answer_Judged lists_sound(knots_Kind kind, uint16_t left, uint16_t right, list_u16 xs, list_u16 ys, list_u32 ms, list_u32 cs);
 static jumps_Spans lists_spans_at(knots_Kind kind, list_u16 xs, list_u16 ys, list_u32 ms, list_u32 cs, uint64_t i);
+static uint16_t little_endian_read_i16(list_u8 list, uint64_t at);
+static uint32_t little_endian_read_i32(list_u8 list, uint64_t at);
+static uint16_t little_endian_read_u16(list_u8 list, uint64_t at);
+static uint32_t little_endian_read_u32(list_u8 list, uint64_t at);
+static uint16_t little_endian_signed16(uint16_t bits);
+static uint32_t little_endian_signed32(uint32_t bits);
 static uint64_t minutes_back(uint64_t i);
 static uint16_t minutes_gap(uint16_t from, uint16_t to);
 static uint16_t minutes_left_gap(list_u16 xs, uint64_t i);
@@ -365,64 +372,6 @@ static answer_Judged answer_refuse(uint32_t number, uint32_t place, bool test)
         return (answer_Judged){.Refused = {answer_Judged_Refused, number, place}};
     }
     return (answer_Judged){.tag = answer_Judged_Accepted};
-}
-
-/* bytes::read_i16 */
-static uint16_t bytes_read_i16(list_u8 list, uint64_t at)
-{
-    uint16_t v3;
-    v3 = bytes_read_u16(list, at);
-    return bytes_signed16(v3);
-}
-
-/* bytes::read_i32 */
-static uint32_t bytes_read_i32(list_u8 list, uint64_t at)
-{
-    uint32_t v3;
-    v3 = bytes_read_u32(list, at);
-    return bytes_signed32(v3);
-}
-
-/* bytes::read_u16 */
-static uint16_t bytes_read_u16(list_u8 list, uint64_t at)
-{
-    uint16_t low, high;
-    low = (uint16_t)list.at[at];
-    high = (uint16_t)(list.at[at + 1ull]);
-    return (uint16_t)((uint32_t)low + (uint16_t)((uint32_t)high * 256));
-}
-
-/* bytes::read_u32 */
-static uint32_t bytes_read_u32(list_u8 list, uint64_t at)
-{
-    uint32_t low, high;
-    uint16_t v5;
-    v5 = bytes_read_u16(list, at);
-    low = (uint32_t)v5;
-    v5 = bytes_read_u16(list, at + 2ull);
-    high = (uint32_t)v5;
-    return low + (high * 65536u);
-}
-
-/* bytes::signed16. The signed number of given bits, and the bits of a signed number. A cast that may lose
-   the sign is refused, so a negative number goes by its complement. */
-static uint16_t bytes_signed16(uint16_t bits)
-{
-    if (bits < 32768) {
-        return (uint16_t)bits;
-    } else {
-        return (uint16_t)~(uint16_t)(uint16_t)((uint32_t)65535 - bits);
-    }
-}
-
-/* bytes::signed32 */
-static uint32_t bytes_signed32(uint32_t bits)
-{
-    if (bits < 2147483648u) {
-        return (uint32_t)bits;
-    } else {
-        return (uint32_t)~(uint32_t)(4294967295u - bits);
-    }
 }
 
 /* card::Checked::of */
@@ -554,8 +503,6 @@ static card_listing_Listed card_listing_list_card(list_u8 card, mut_list_u8 text
     array_u32_64 slopes, curvatures;
     card_Checked read;
     uint64_t n, length;
-    array_u8_0 v10;
-    v10 = (array_u8_0){{0}};
     for (size_t n_ = 0; n_ < 64; n_++)
         minutes.e[n_] = 0;
     for (size_t n_ = 0; n_ < 64; n_++)
@@ -566,7 +513,7 @@ static card_listing_Listed card_listing_list_card(list_u8 card, mut_list_u8 text
         curvatures.e[n_] = 0u;
     read = card_read(card, (mut_list_u16){minutes.e, 64ull}, (mut_list_u16){ordinates.e, 64ull}, (mut_list_u32){slopes.e, 64ull}, (mut_list_u32){curvatures.e, 64ull});
     n = (uint64_t)read.knots;
-    length = listing_list(read.number, read.place, (list_u16){minutes.e, n}, (list_u16){ordinates.e, n}, (list_u32){slopes.e, n}, (list_u32){curvatures.e, n}, (list_u8){v10.e, 0ull}, (mut_list_u8){text.at, text.length});
+    length = listing_list(read.number, read.place, (list_u16){minutes.e, n}, (list_u16){ordinates.e, n}, (list_u32){slopes.e, n}, (list_u32){curvatures.e, n}, (list_u8){card_listing_list_card_v26.e, 0ull}, (mut_list_u8){text.at, text.length});
     return (card_listing_Listed){read.number, read.place, length};
 }
 
@@ -686,7 +633,7 @@ static decode_Card decode_Card_of(list_u8 list)
     array_u32_64 slopes, curvatures;
     uint16_t v9, v12, v16, v24;
     uint32_t v19;
-    v9 = bytes_read_u16(list, 4ull);
+    v9 = little_endian_read_u16(list, 4ull);
     n = (uint64_t)v9;
     for (size_t n_ = 0; n_ < 64; n_++)
         minutes.e[n_] = 0;
@@ -699,23 +646,23 @@ static decode_Card decode_Card_of(list_u8 list)
     i = 0ull;
     while (i < n) {
         at = 10ull + (16ull * i);
-        v12 = bytes_read_u16(list, at + 4ull);
+        v12 = little_endian_read_u16(list, at + 4ull);
         minutes.e[i] = v12;
-        v16 = bytes_read_i16(list, at + 6ull);
+        v16 = little_endian_read_i16(list, at + 6ull);
         ordinates.e[i] = v16;
-        v19 = bytes_read_i32(list, at + 8ull);
+        v19 = little_endian_read_i32(list, at + 8ull);
         slopes.e[i] = v19;
-        v19 = bytes_read_i32(list, at + 12ull);
+        v19 = little_endian_read_i32(list, at + 12ull);
         curvatures.e[i] = v19;
         i = i + 1ull;
     }
-    v9 = bytes_read_u16(list, 6ull);
-    v24 = bytes_read_u16(list, 8ull);
+    v9 = little_endian_read_u16(list, 6ull);
+    v24 = little_endian_read_u16(list, 8ull);
     return (decode_Card){n, v9, v24, minutes, ordinates, slopes, curvatures};
 }
 
-/* io::buffer. 4,096 zeros, for a path (`libc::PATH_MAX`). The `ensures` gives only the length, which
-   lending the array as a slice needs. */
+/* io::buffer. 4,096 zeros, which hold any path (`libc::PATH_MAX`). The `ensures` gives only the length,
+   which lending the array as a slice needs. */
 static array_u8_4096 io_buffer(void)
 {
     array_u8_4096 result;
@@ -724,30 +671,18 @@ static array_u8_4096 io_buffer(void)
     return result;
 }
 
-/* io::clamp */
-static uint64_t io_clamp(uint64_t got, uint64_t most)
+/* io::clamp. `ret` brought into `0..=most`. */
+static uint64_t io_clamp(uint64_t ret, uint64_t most)
 {
-    if (s64(0ull) < s64(got)) {
-        return io_least((uint64_t)got, most);
+    if (s64(0ull) < s64(ret)) {
+        return io_min_len((uint64_t)ret, most);
     } else {
         return 0ull;
     }
 }
 
-/* io::copy */
-static void io_copy(list_u8 src, uint64_t from, mut_list_u8 dst, uint64_t to, uint64_t n)
-{
-    uint64_t i;
-    i = 0ull;
-    while (i < n) {
-        dst.at[to + i] = src.at[from + i];
-        i = i + 1ull;
-    }
-    return;
-}
-
-/* io::least */
-static uint64_t io_least(uint64_t a, uint64_t b)
+/* io::min_len */
+static uint64_t io_min_len(uint64_t a, uint64_t b)
 {
     if (a < b) {
         return a;
@@ -756,85 +691,39 @@ static uint64_t io_least(uint64_t a, uint64_t b)
     }
 }
 
-/* io::read_full. Reads until buf is full, the input ends or a read fails, and answers how many bytes it
-   put at the start of buf. */
+/* io::read_full. Reads until buf is full, the input ends or a read fails, and returns how many bytes it
+   put at the start of buf. On an empty buf it makes no call. */
 static uint64_t io_read_full(uint32_t fd, mut_list_u8 buf)
 {
-    uint64_t done, more, v7;
-    array_u8_4096 space, v12;
-    mut_list_u8 chunk;
-    v7 = libc_read(fd, (mut_list_u8){buf.at, buf.length});
-    done = io_clamp(v7, buf.length);
-    if (done == 0ull) {
-        return 0ull;
-    }
-    if (done == buf.length) {
-        return done;
-    }
-    v12 = io_buffer();
-    space = v12;
-    chunk = (mut_list_u8){space.e, 4096ull};
+    uint64_t done, most, n, v8;
+    done = 0ull;
     while (done < buf.length) {
-        more = io_read_to(fd, (mut_list_u8){buf.at, buf.length}, done, (mut_list_u8){chunk.at, chunk.length});
-        if (more == 0ull) {
+        most = buf.length - done;
+        v8 = libc_read(fd, (mut_list_u8){&buf.at[done], buf.length - done});
+        n = io_clamp(v8, most);
+        if (n == 0ull) {
             break;
         }
-        done = done + more;
+        done = done + n;
     }
     return done;
 }
 
-/* io::read_to. One read into buf from index `to` on, by way of chunk for the same reason. */
-static uint64_t io_read_to(uint32_t fd, mut_list_u8 buf, uint64_t to, mut_list_u8 chunk)
-{
-    uint64_t n, more, v10;
-    n = io_least(buf.length - to, chunk.length);
-    v10 = libc_read(fd, (mut_list_u8){chunk.at, n});
-    more = io_clamp(v10, n);
-    io_copy((list_u8){chunk.at, chunk.length}, 0ull, (mut_list_u8){buf.at, buf.length}, to, more);
-    return more;
-}
-
-/* io::write_all. Writes all of buf and answers true, or stops at the first write that takes nothing or
-   fails and answers false, when some of buf may have been written. On an empty buf it makes no call. */
+/* io::write_all. Writes all of buf and returns true, or stops at the first write that takes nothing or
+   fails and returns false, when some of buf may have been written. On an empty buf it makes no call. */
 static bool io_write_all(uint32_t fd, list_u8 buf)
 {
-    uint64_t done, put, v9;
-    array_u8_4096 space, v10;
-    mut_list_u8 chunk;
-    if (buf.length == 0ull) {
-        return true;
-    }
-    v9 = libc_write(fd, buf);
-    done = io_clamp(v9, buf.length);
-    if (done == buf.length) {
-        return true;
-    }
-    if (done == 0ull) {
-        return false;
-    }
-    v10 = io_buffer();
-    space = v10;
-    chunk = (mut_list_u8){space.e, 4096ull};
+    uint64_t done, n, v7;
+    done = 0ull;
     while (done < buf.length) {
-        put = io_write_from(fd, buf, done, (mut_list_u8){chunk.at, chunk.length});
-        if (put == 0ull) {
+        v7 = libc_write(fd, (list_u8){&buf.at[done], buf.length - done});
+        n = io_clamp(v7, buf.length - done);
+        if (n == 0ull) {
             return false;
         }
-        done = done + put;
+        done = done + n;
     }
     return true;
-}
-
-/* io::write_from. One write of buf's bytes from index `from` on. They go by way of chunk: the borrow
-   checker covers `&buf[from..]`, but the proofs here do not use it yet. */
-static uint64_t io_write_from(uint32_t fd, list_u8 buf, uint64_t from, mut_list_u8 chunk)
-{
-    uint64_t n, v12;
-    n = io_least(buf.length - from, chunk.length);
-    io_copy(buf, from, (mut_list_u8){chunk.at, chunk.length}, 0ull, n);
-    v12 = libc_write(fd, (list_u8){chunk.at, n});
-    return io_clamp(v12, n);
 }
 
 /* jumps::Span::none. Of no gap, or of a derivative that is not asked. */
@@ -1077,18 +966,16 @@ static uint32_t knots_stands_at(list_u16 xs, list_u16 ys, uint64_t i)
     return 0u;
 }
 
-/* libc::read. POSIX's read, on the file descriptor fd: it answers -1, or how many bytes it put at the
-   start of buf, 0 at the end of the input. Of the bytes in buf afterwards the contract says nothing. */
-static uint64_t libc_read(uint32_t fd, mut_list_u8 buf)
+/* libc::read */
+static uint64_t libc_read(uint32_t a1, mut_list_u8 a2)
 {
-    return (uint64_t)(int64_t)read(s32(fd), (void *)buf.at, (size_t)buf.length);
+    return (uint64_t)(int64_t)read(s32(a1), (void *)a2.at, (size_t)a2.length);
 }
 
-/* libc::write. POSIX's write, on the file descriptor fd: it answers -1, or how many of buf's first bytes
-   it took, which may be fewer than all. That buf is unchanged is what its type says. */
-static uint64_t libc_write(uint32_t fd, list_u8 buf)
+/* libc::write */
+static uint64_t libc_write(uint32_t a1, list_u8 a2)
 {
-    return (uint64_t)(int64_t)write(s32(fd), (const void *)buf.at, (size_t)buf.length);
+    return (uint64_t)(int64_t)write(s32(a1), (const void *)a2.at, (size_t)a2.length);
 }
 
 /* lister::main. A card of 64 knots has 1,038 bytes, and what follows a card is told by its first byte, so
@@ -1113,9 +1000,7 @@ static void lister_main(void)
 static uint64_t listing_accepted_line(mut_list_u8 text, uint64_t at, uint32_t knots)
 {
     uint64_t next;
-    array_u8_3 v5;
-    v5 = (array_u8_3){{111, 107, 32}};
-    next = decimal_put_worded((mut_list_u8){text.at, text.length}, at, (list_u8){v5.e, 3ull}, (uint64_t)knots);
+    next = decimal_put_worded((mut_list_u8){text.at, text.length}, at, (list_u8){listing_accepted_line_v7.e, 3ull}, (uint64_t)knots);
     return decimal_put_byte((mut_list_u8){text.at, text.length}, next, 10);
 }
 
@@ -1200,10 +1085,8 @@ static uint64_t listing_listed_line(mut_list_u8 text, uint64_t at, uint16_t x, u
 static uint64_t listing_refused_line(mut_list_u8 text, uint64_t at, uint32_t number, uint32_t place)
 {
     uint64_t after_number, after_place;
-    array_u8_4 v8;
-    v8 = (array_u8_4){{32, 97, 116, 32}};
-    after_number = decimal_put_worded((mut_list_u8){text.at, text.length}, at, (list_u8){listing_refused_line_v7.e, 8ull}, (uint64_t)number);
-    after_place = decimal_put_worded((mut_list_u8){text.at, text.length}, after_number, (list_u8){v8.e, 4ull}, (uint64_t)place);
+    after_number = decimal_put_worded((mut_list_u8){text.at, text.length}, at, (list_u8){listing_refused_line_v9.e, 8ull}, (uint64_t)number);
+    after_place = decimal_put_worded((mut_list_u8){text.at, text.length}, after_number, (list_u8){listing_refused_line_v15.e, 4ull}, (uint64_t)place);
     return decimal_put_byte((mut_list_u8){text.at, text.length}, after_place, 10);
 }
 
@@ -1345,6 +1228,64 @@ static jumps_Spans lists_spans_at(knots_Kind kind, list_u16 xs, list_u16 ys, lis
     return jumps_Spans_of(fourth, (uint64_t)squares, h, here, after);
 }
 
+/* little_endian::read_i16 */
+static uint16_t little_endian_read_i16(list_u8 list, uint64_t at)
+{
+    uint16_t v3;
+    v3 = little_endian_read_u16(list, at);
+    return little_endian_signed16(v3);
+}
+
+/* little_endian::read_i32 */
+static uint32_t little_endian_read_i32(list_u8 list, uint64_t at)
+{
+    uint32_t v3;
+    v3 = little_endian_read_u32(list, at);
+    return little_endian_signed32(v3);
+}
+
+/* little_endian::read_u16 */
+static uint16_t little_endian_read_u16(list_u8 list, uint64_t at)
+{
+    uint16_t low, high;
+    low = (uint16_t)list.at[at];
+    high = (uint16_t)(list.at[at + 1ull]);
+    return (uint16_t)((uint32_t)low + (uint16_t)((uint32_t)high * 256));
+}
+
+/* little_endian::read_u32 */
+static uint32_t little_endian_read_u32(list_u8 list, uint64_t at)
+{
+    uint32_t low, high;
+    uint16_t v5;
+    v5 = little_endian_read_u16(list, at);
+    low = (uint32_t)v5;
+    v5 = little_endian_read_u16(list, at + 2ull);
+    high = (uint32_t)v5;
+    return low + (high * 65536u);
+}
+
+/* little_endian::signed16. The signed number of given bits, and the bits of a signed number. A cast that
+   may lose the sign is refused, so a negative number goes by its complement. */
+static uint16_t little_endian_signed16(uint16_t bits)
+{
+    if (bits < 32768) {
+        return (uint16_t)bits;
+    } else {
+        return (uint16_t)~(uint16_t)(uint16_t)((uint32_t)65535 - bits);
+    }
+}
+
+/* little_endian::signed32 */
+static uint32_t little_endian_signed32(uint32_t bits)
+{
+    if (bits < 2147483648u) {
+        return (uint32_t)bits;
+    } else {
+        return (uint32_t)~(uint32_t)(4294967295u - bits);
+    }
+}
+
 /* minutes::back. The place before; at the first knot its own. */
 static uint64_t minutes_back(uint64_t i)
 {
@@ -1434,10 +1375,10 @@ static answer_Judged opened_behind_head(knots_Kind kind, list_u8 card)
     uint16_t left, right, v8;
     uint32_t number, place;
     answer_Judged v9, v10, v11;
-    v8 = bytes_read_u16(card, 4ull);
+    v8 = little_endian_read_u16(card, 4ull);
     n = (uint64_t)v8;
-    left = bytes_read_u16(card, 6ull);
-    right = bytes_read_u16(card, 8ull);
+    left = little_endian_read_u16(card, 6ull);
+    right = little_endian_read_u16(card, 8ull);
     v10 = knots_counted(n);
     v11 = knots_codes(kind, left, right);
     v9 = answer_first(v10, v11);
@@ -1522,11 +1463,11 @@ static bool record_is_at(list_u8 list, uint64_t at, uint16_t kind, uint16_t leng
     if ((list.length - at) < size) {
         return false;
     }
-    v9 = bytes_read_u16(list, at);
+    v9 = little_endian_read_u16(list, at);
     if (v9 != length) {
         return false;
     }
-    v9 = bytes_read_u16(list, at + 2ull);
+    v9 = little_endian_read_u16(list, at + 2ull);
     return v9 == kind;
 }
 
