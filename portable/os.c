@@ -7,12 +7,9 @@
 #include <stdint.h>
 
 void rattle_main(int argc, char **argv);
-uint64_t rattle_arg_count(void);
 int64_t rattle_arg(uint64_t i, void *buffer, size_t length);
 int32_t rattle_open(const void *path, int32_t flags, uint32_t mode);
 int32_t rattle_flock(int32_t fd, int32_t how);
-int32_t rattle_open_to_read(const void *path);
-int32_t rattle_open_new(const void *path, uint32_t mode);
 int32_t rattle_errno(void);
 void rattle_set_errno(int32_t error);
 
@@ -23,11 +20,6 @@ void rattle_main(int argc, char **argv)
 {
     count = argc;
     words = argv;
-}
-
-uint64_t rattle_arg_count(void)
-{
-    return (uint64_t)count;
 }
 
 /* Argument i at the start of the buffer, and its length; -1 where there is none, -2 where it does not fit, and then the buffer is full. */
@@ -73,20 +65,6 @@ int32_t rattle_flock(int32_t fd, int32_t how)
     (void)how;
     errno = ENOLCK;
     return -1;
-}
-
-/* The same two ways, as the workbench.c that the older kit's proof gave asks for them. */
-enum { ALWAYS = O_NOCTTY | O_CLOEXEC };
-
-int32_t rattle_open_to_read(const void *path)
-{
-    return open(path, O_RDONLY | ALWAYS);
-}
-
-/* Makes the file: -1 where the name is taken. */
-int32_t rattle_open_new(const void *path, uint32_t mode)
-{
-    return open(path, O_WRONLY | O_CREAT | O_EXCL | ALWAYS, (mode_t)mode);
 }
 
 /* The program knows errors by these numbers, which are Linux's and most systems'. */
