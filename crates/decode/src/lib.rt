@@ -66,18 +66,18 @@ impl Card {
     // Its numbers over the fronts of four lists that have room for them.
     #[tactic(auto, unfolding(crate::specs::Decoded::decoded))]
     pub fn give(
-        self,
+        &self,
         minutes: &mut [u16],
         ordinates: &mut [i16],
         slopes: &mut [i32],
         curvatures: &mut [i32],
     )
-        requires full { Full self }
-        requires knots_in_bounds { (self.knots ≤ length minutes.old) × (length ordinates.old ≡ length minutes.old) × (length slopes.old ≡ length minutes.old) × (length curvatures.old ≡ length minutes.old) }
-        ensures minutes_after { minutes.new ≡ (decoded self).minutes ++ drop self.knots minutes.old }
-        ensures ordinates_after { ordinates.new ≡ (decoded self).ordinates ++ drop self.knots ordinates.old }
-        ensures slopes_after { slopes.new ≡ (decoded self).slopes ++ drop self.knots slopes.old }
-        ensures curvatures_after { curvatures.new ≡ (decoded self).curvatures ++ drop self.knots curvatures.old }
+        requires full { Full self.now }
+        requires knots_in_bounds { (self.now.knots ≤ length minutes.old) × (length ordinates.old ≡ length minutes.old) × (length slopes.old ≡ length minutes.old) × (length curvatures.old ≡ length minutes.old) }
+        ensures minutes_after { minutes.new ≡ (decoded self.now).minutes ++ drop self.now.knots minutes.old }
+        ensures ordinates_after { ordinates.new ≡ (decoded self.now).ordinates ++ drop self.now.knots ordinates.old }
+        ensures slopes_after { slopes.new ≡ (decoded self.now).slopes ++ drop self.now.knots slopes.old }
+        ensures curvatures_after { curvatures.new ≡ (decoded self.now).curvatures ++ drop self.now.knots curvatures.old }
     {
         let n = self.knots;
         minutes[..n].copy_from_slice(&self.minutes[..n]);
