@@ -2,15 +2,16 @@
 // of "Numbers of refusal"; document 02, order 8. It asks nothing of its caller.
 #![tactic(auto)]
 
-ghost use Rattle.std.specs.Prelude.{◌≡◌};
-ghost use Rattle.answer.specs.Judge.{verdict_of};
+ghost use Rattle.std.specs.Prelude.{◌≡◌, ℕ};
+ghost use Rattle.answer.specs.Answer.{refused};
+ghost use Rattle.answer.specs.Judge.{number_of, verdict_of};
 ghost use Rattle.curve.specs.Kind.{quintic, sloped};
 ghost use Rattle.curve.specs.Orders.{verdict, write_order};
 ghost use Rattle.knots.specs.Kinds.{kind_of};
 ghost use Rattle.knots.specs.Lent.{lent};
-ghost use Rattle.writer.specs.Promise.{Writes};
+ghost use Rattle.writer.specs.Promise.{Writes, written};
 
-use answer::Judged;
+use answer::{Judged, Refusal};
 use knots::Kind;
 
 // 3, 1, 2, 15; per knot 4, 5, 6; 9; 10.
@@ -26,16 +27,14 @@ fn judged(
     ensures { verdict_of result ≡ verdict (kind_of kind) (lent minutes.now ordinates.now slopes.now curvatures.now left right) }
 {
     let named = knots::codes(kind, left, right);
-    match knots::sized(
+    knots::sized(
         minutes.len(),
         ordinates.len(),
         slopes.len(),
         curvatures.len(),
         named,
-    ) {
-        Judged::Refused(number, place) => Judged::Refused(number, place),
-        Judged::Accepted => lists::sound(kind, left, right, minutes, ordinates, slopes, curvatures),
-    }
+    )?;
+    lists::sound(kind, left, right, minutes, ordinates, slopes, curvatures)
 }
 
 // And 26.
@@ -51,10 +50,8 @@ fn writable(
 ) -> Judged
     ensures { verdict_of result ≡ write_order (kind_of kind) (lent minutes.now ordinates.now slopes.now curvatures.now left right) bytes }
 {
-    match judged(kind, minutes, ordinates, slopes, curvatures, left, right) {
-        Judged::Refused(number, place) => Judged::Refused(number, place),
-        Judged::Accepted => knots::room(14 + 16 * minutes.len(), bytes),
-    }
+    judged(kind, minutes, ordinates, slopes, curvatures, left, right)?;
+    knots::room(14 + 16 * minutes.len(), bytes)
 }
 
 // Number and place, and how many bytes were written; zeros behind a refusal.
@@ -64,6 +61,19 @@ pub struct Written {
     pub number: u32,
     pub place: u32,
     pub bytes: u32,
+}
+
+impl From<Refusal> for Written {
+    ghost from_gives = { λ r w. (bytes : ℕ) → w ≡ written (refused (number_of r.reason) r.place) bytes };
+
+    #[tactic(auto, unfolding(crate::specs::Promise::written))]
+    fn from(refusal: Refusal) -> Written {
+        Written {
+            number: refusal.number(),
+            place: refusal.place,
+            bytes: 0,
+        }
+    }
 }
 
 // On acceptance the bytes of the card of a kind are written, and the rest of the buffer stays.
@@ -91,12 +101,8 @@ fn write_as(
         right,
         buffer.len(),
     );
-    if let Judged::Refused(number, place) = verdict {
-        return Written {
-            number,
-            place,
-            bytes: 0,
-        };
+    if let Err(refusal) = verdict {
+        return Written::from(refusal);
     }
     encode::put_card(
         kind, minutes, ordinates, slopes, curvatures, left, right, buffer,

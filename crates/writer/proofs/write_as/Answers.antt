@@ -12,8 +12,8 @@ use Rattle.curve.specs.Orders.{write_order}
 use Rattle.knots.specs.declared.Kind.{Kind}
 use Rattle.knots.specs.Kinds.{kind_of}
 use Rattle.knots.specs.Lent.{lent}
+use Rattle.writer.specs.Promise.{written}
 use Rattle.writer.proofs.Ready.{Ready, ready_of, writes_refused, writes_given}
-use borrow.Author.Rules.{rules}
 use Rattle.writer.proofs.write_as.Goals as goal
 use Rattle.writer.proofs.write_as.Goals.{After-writable-verdict, In_default}
 
@@ -32,10 +32,11 @@ accepts c = step_accepts c.writable-verdict.ensures c.in_default.is
 ready : (c : In_default) → Ready (card (goal.at.In_default c).After-writable-verdict) (length (buffer (goal.at.In_default c).After-writable-verdict))
 ready c = ready_of (kind (goal.at.In_default c).After-writable-verdict) _ _ (accepts c)
 
-pub returns-in-Refused : goal.returns-in-Refused
-returns-in-Refused c =
-    let w = (goal.at.returns-in-Refused c).After-writable-verdict in
-    writes_refused (kind_of (kind w)) (card w) (buffer w) (step_refused w.writable-verdict.ensures c.in-Refused.is)
+pub returns-in-Err : goal.returns-in-Err
+unfolding written
+returns-in-Err c =
+    let w = (goal.at.returns-in-Err c).After-writable-verdict in
+    rw (c.from.ensures 0) (writes_refused (kind_of (kind w)) (card w) (buffer w) (step_refused w.writable-verdict.ensures c.in-Err.is))
 
 pub put_card-requires : goal.put_card-requires
 put_card-requires c =
