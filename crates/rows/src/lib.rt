@@ -3,7 +3,10 @@
 #![tactic(auto)]
 
 ghost use Rattle.std.specs.Prelude.{◌≡◌};
+ghost use Rattle.rows.specs.Matrices.{◌times◌, ◌on◌, ◌less◌, ◌minus◌};
 ghost use Rattle.rows.specs.Equations.{one_over, powers, difference, gap, no_gap, row, second, both_given, curvature_given, replaced, equations};
+
+use std::ops::{Mul, Sub};
 
 // A slope with a curvature; a right side; a column.
 #[derive(Clone, Copy)]
@@ -61,6 +64,66 @@ pub const ZEROS: Block = Block {
     e22: 0.0,
 };
 
+// ---- matrices: each entry of a product is two products, then their sum
+
+impl Mul for Block {
+    type Output = Block;
+
+    ghost mul_gives = { λ m n r. r ≡ m times n };
+
+    fn mul(self, n: Block) -> Block {
+        Block {
+            e11: self.e11 * n.e11 + self.e12 * n.e21,
+            e12: self.e11 * n.e12 + self.e12 * n.e22,
+            e21: self.e21 * n.e11 + self.e22 * n.e21,
+            e22: self.e21 * n.e12 + self.e22 * n.e22,
+        }
+    }
+}
+
+impl Mul<Pair> for Block {
+    type Output = Pair;
+
+    ghost mul_gives = { λ m v r. r ≡ m on v };
+
+    fn mul(self, v: Pair) -> Pair {
+        Pair {
+            s: self.e11 * v.s + self.e12 * v.c,
+            c: self.e21 * v.s + self.e22 * v.c,
+        }
+    }
+}
+
+impl Sub for Block {
+    type Output = Block;
+
+    ghost sub_gives = { λ m n r. r ≡ m less n };
+
+    fn sub(self, n: Block) -> Block {
+        Block {
+            e11: self.e11 - n.e11,
+            e12: self.e12 - n.e12,
+            e21: self.e21 - n.e21,
+            e22: self.e22 - n.e22,
+        }
+    }
+}
+
+impl Sub for Pair {
+    type Output = Pair;
+
+    ghost sub_gives = { λ v w r. r ≡ v minus w };
+
+    fn sub(self, w: Pair) -> Pair {
+        Pair {
+            s: self.s - w.s,
+            c: self.c - w.c,
+        }
+    }
+}
+
+// ---- gaps
+
 fn inverse(h: u16) -> f64
     ensures { result ≡ one_over h }
 {
@@ -99,6 +162,8 @@ pub fn empty_gap() -> Gap
     let powers = powers_of(0.0);
     Gap { powers, rise: 0.0 }
 }
+
+// ---- rows
 
 // A, L, R and k for the gaps p on the left and g on the right.
 fn row_of(p: Powers, e: f64, g: Powers, d: f64) -> Row
