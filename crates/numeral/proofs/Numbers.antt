@@ -37,15 +37,7 @@ starts_some b (x ∷ w) e = omega arith
 -- ---- natural numbers
 
 module _ (most : ℕ) (w : List ℕ) where
-  pub is_not_whole : all_digits w ≡ false → Err Wrong.NotWhole ≡ natural most w
-  unfolding natural
-  is_not_whole e = rw e
-
   module _ (d : all_digits w ≡ true) where
-    pub is_padded : padded w ≡ true → Err Wrong.LeadingZero ≡ natural most w
-    unfolding natural
-    is_padded e = rw (d, e)
-
     pub is_value : padded w ≡ false → at_most most (value w) ≡ natural most w
     unfolding natural
     is_value e = rw (d, e)
@@ -68,10 +60,6 @@ module _ (w : List ℕ) {n : ℕ} where
   is_above e = let h = natural_upto 2147483647 w e in rw (e, to_z_pos w32 {n = n} (omega arith))
 
   module _ (e : natural 2147483648 w ≡ Ok n) where
-    pub is_zero : n ≡ 0 → Err Wrong.LeadingZero ≡ below (natural 2147483648 w)
-    unfolding below
-    is_zero z = rw (e, z)
-
     pub is_below : (n ≡ 0 → ⊥) → Ok (to_z w32 (4294967295 - (n - 1))) ≡ below (natural 2147483648 w)
     unfolding below
     is_below z = rw e (go n z (natural_upto 2147483648 w e))
