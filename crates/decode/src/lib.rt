@@ -24,18 +24,14 @@ impl Card {
     pub fn none() -> Card
         ensures { result ≡ none }
     {
-        let minutes = [0u16; Kind::MOST];
-        let ordinates = [0i16; Kind::MOST];
-        let slopes = [0i32; Kind::MOST];
-        let curvatures = [0i32; Kind::MOST];
         Card {
             knots: 0,
             left: 0,
             right: 0,
-            minutes,
-            ordinates,
-            slopes,
-            curvatures,
+            minutes: [0; Kind::MOST],
+            ordinates: [0; Kind::MOST],
+            slopes: [0; Kind::MOST],
+            curvatures: [0; Kind::MOST],
         }
     }
 
@@ -49,14 +45,12 @@ impl Card {
         let mut ordinates = [0i16; Kind::MOST];
         let mut slopes = [0i32; Kind::MOST];
         let mut curvatures = [0i32; Kind::MOST];
-        let mut i: usize = 0;
-        while i < n {
+        for i in 0..n {
             let at = 10 + 16 * i;
             minutes[i] = little_endian::read_u16(list, at + 4);
             ordinates[i] = little_endian::read_i16(list, at + 6);
             slopes[i] = little_endian::read_i32(list, at + 8);
             curvatures[i] = little_endian::read_i32(list, at + 12);
-            i += 1;
         }
         Card {
             knots: n,
@@ -70,6 +64,7 @@ impl Card {
     }
 
     // Its numbers over the fronts of four lists that have room for them.
+    #[tactic(auto, unfolding(crate::specs::Decoded::decoded))]
     pub fn give(
         self,
         minutes: &mut [u16],
@@ -85,17 +80,9 @@ impl Card {
         ensures curvatures_after { curvatures.new ≡ (decoded self).curvatures ++ drop self.knots curvatures.old }
     {
         let n = self.knots;
-        let xs = self.minutes;
-        let ys = self.ordinates;
-        let ms = self.slopes;
-        let cs = self.curvatures;
-        let mut place: usize = 0;
-        while place < n {
-            minutes[place] = xs[place];
-            ordinates[place] = ys[place];
-            slopes[place] = ms[place];
-            curvatures[place] = cs[place];
-            place += 1;
-        }
+        minutes[..n].copy_from_slice(&self.minutes[..n]);
+        ordinates[..n].copy_from_slice(&self.ordinates[..n]);
+        slopes[..n].copy_from_slice(&self.slopes[..n]);
+        curvatures[..n].copy_from_slice(&self.curvatures[..n]);
     }
 }

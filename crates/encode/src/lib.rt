@@ -60,8 +60,7 @@ pub fn put_card(
 {
     let n = minutes.len();
     put_head(buffer, kind.head, n as u16, left, right);
-    let mut row: usize = 0;
-    while row < n {
+    for row in 0..n {
         put_knot(
             buffer,
             10 + 16 * row,
@@ -70,7 +69,6 @@ pub fn put_card(
             slopes[row],
             curvatures[row],
         );
-        row += 1;
     }
     put_end(buffer, 10 + 16 * n);
 }

@@ -20,6 +20,3 @@ use Rattle.encode.proofs.put_card.Given as goal
 
 abbrev pub invariant-loop-row : goal.invariant-loop-row
 invariant-loop-row l = (l.row ≤ l.n) × (length l.buffer ≡ length l.initial.buffer) × (l.buffer ≡ sets l.initial.buffer 10 (rows (knot_row (lent l.minutes l.ordinates l.slopes l.curvatures l.left l.right)) 0 l.row))
-
-abbrev pub decreases-loop-row : goal.decreases-loop-row
-decreases-loop-row l = l.n - l.row
