@@ -158,7 +158,7 @@ abbrev pub with_line : (mends : Bool) → Sheet → ℕ → List ℕ → Result 
 with_line mends s n l = line_taken mends s n (line l)
 
 -- what follows where nothing is wrong
-unfoldable pub then : Result Sheet Blame → (Sheet → Result Sheet Blame) → Result Sheet Blame
+unfoldable pub then : {A : Type 0} → Result A Blame → (A → Result A Blame) → Result A Blame
 then (Err b) f = Err b
 then (Ok s) f = f s
 
