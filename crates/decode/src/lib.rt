@@ -2,10 +2,11 @@
 #![tactic(auto)]
 
 ghost use Rattle.std.specs.Prelude.{◌≡◌, ◌≤◌, ◌++◌, length, drop};
+ghost use Rattle.knots.specs.Lent.{card_lent};
 ghost use Rattle.card_bytes.specs.Held.{start, count_at};
 ghost use Rattle.decode.specs.Decoded.{most, held, none, decoded, Full};
 
-use knots::Kind;
+use knots::{Kind, Lent};
 
 // Its numbers, decoded once: each list at the front of an array, zeros behind it.
 #[derive(Clone, Copy)]
@@ -63,6 +64,23 @@ impl Card {
         }
     }
 
+    // Its lists, as long as it has knots, and the codes of its ends.
+    #[tactic(auto, unfolding(crate::specs::Decoded::decoded))]
+    pub fn lent(&self) -> Lent<'_>
+        requires { Full self.now }
+        ensures { card_lent result ≡ decoded self.now }
+    {
+        let n = self.knots;
+        Lent {
+            minutes: &self.minutes[..n],
+            ordinates: &self.ordinates[..n],
+            slopes: &self.slopes[..n],
+            curvatures: &self.curvatures[..n],
+            left: self.left,
+            right: self.right,
+        }
+    }
+
     // Its numbers over the fronts of four lists that have room for them.
     #[tactic(auto, unfolding(crate::specs::Decoded::decoded))]
     pub fn give(
@@ -79,10 +97,11 @@ impl Card {
         ensures slopes_after { slopes.new ≡ (decoded self.now).slopes ++ drop self.now.knots slopes.old }
         ensures curvatures_after { curvatures.new ≡ (decoded self.now).curvatures ++ drop self.now.knots curvatures.old }
     {
-        let n = self.knots;
-        minutes[..n].copy_from_slice(&self.minutes[..n]);
-        ordinates[..n].copy_from_slice(&self.ordinates[..n]);
-        slopes[..n].copy_from_slice(&self.slopes[..n]);
-        curvatures[..n].copy_from_slice(&self.curvatures[..n]);
+        let held = self.lent();
+        let n = held.minutes.len();
+        minutes[..n].copy_from_slice(held.minutes);
+        ordinates[..n].copy_from_slice(held.ordinates);
+        slopes[..n].copy_from_slice(held.slopes);
+        curvatures[..n].copy_from_slice(held.curvatures);
     }
 }

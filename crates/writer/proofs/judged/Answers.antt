@@ -7,13 +7,13 @@ use Rattle.answer.proofs.Chain.{step_refuses, step_passes}
 use Rattle.curve.specs.Card.{Card, knots}
 use Rattle.curve.specs.Steps.{counted}
 use Rattle.knots.specs.Kinds.{kind_of}
-use Rattle.knots.specs.Lent.{lent}
+use Rattle.knots.specs.Lent.{card_lent}
 use Rattle.writer.proofs.Ready.{sizes_named, sizes, sizes_then, long_lists}
 use Rattle.writer.proofs.judged.Goals as goal
 use Rattle.writer.proofs.judged.Goals.{After-sized}
 
 abbrev card : After-sized → Card
-card c = let a = c.args in lent a.minutes.now a.ordinates.now a.slopes.now a.curvatures.now a.left a.right
+card c = card_lent c.args.card
 
 -- every kind has the same limits of count
 sized_is : (c : After-sized) → verdict_of c.sized.result ≡ sizes (kind_of c.args.kind) (card c)

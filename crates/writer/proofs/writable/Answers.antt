@@ -14,15 +14,15 @@ use Rattle.writer.proofs.Ready.{accepted_few}
 use Rattle.writer.proofs.writable.Goals as goal
 use Rattle.writer.proofs.writable.Goals.{In_ok-judged}
 
-few : (c : In_ok-judged) → length c.args.minutes.now ≤ most
+few : (c : In_ok-judged) → length c.args.card.minutes.now ≤ most
 unfolding knots
 few c = accepted_few c.args.kind _ (sym c.judged.ensures ∙ ap verdict_of c.in_ok-judged.was)
 
-pub overflow_mul-minutes : goal.overflow_mul-minutes
-overflow_mul-minutes c = omega (arith, few c)
+pub overflow_mul-card : goal.overflow_mul-card
+overflow_mul-card c = omega (arith, few c)
 
-pub overflow_add-minutes : goal.overflow_add-minutes
-overflow_add-minutes c = omega (arith, few c)
+pub overflow_add-card : goal.overflow_add-card
+overflow_add-card c = omega (arith, few c)
 
 pub returns-in_err-judged : goal.returns-in_err-judged
 unfolding write_order
