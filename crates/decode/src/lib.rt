@@ -2,10 +2,11 @@
 #![tactic(auto)]
 
 ghost use Rattle.std.specs.Prelude.{◌≡◌, ◌≤◌, ◌++◌, length, drop};
+ghost use Rattle.knots.specs.Lent.{card_lent};
 ghost use Rattle.card_bytes.specs.Held.{start, count_at};
 ghost use Rattle.decode.specs.Decoded.{most, held, none, decoded, Full};
 
-use knots::Kind;
+use knots::{Kind, Lent};
 
 // Its numbers, decoded once: each list at the front of an array, zeros behind it.
 #[derive(Clone, Copy)]
@@ -63,26 +64,44 @@ impl Card {
         }
     }
 
+    // Its lists, as long as it has knots, and the codes of its ends.
+    #[tactic(auto, unfolding(crate::specs::Decoded::decoded))]
+    pub fn lent(&self) -> Lent<'_>
+        requires { Full self.now }
+        ensures { card_lent result ≡ decoded self.now }
+    {
+        let n = self.knots;
+        Lent {
+            minutes: &self.minutes[..n],
+            ordinates: &self.ordinates[..n],
+            slopes: &self.slopes[..n],
+            curvatures: &self.curvatures[..n],
+            left: self.left,
+            right: self.right,
+        }
+    }
+
     // Its numbers over the fronts of four lists that have room for them.
     #[tactic(auto, unfolding(crate::specs::Decoded::decoded))]
     pub fn give(
-        self,
+        &self,
         minutes: &mut [u16],
         ordinates: &mut [i16],
         slopes: &mut [i32],
         curvatures: &mut [i32],
     )
-        requires full { Full self }
-        requires knots_in_bounds { (self.knots ≤ length minutes.old) × (length ordinates.old ≡ length minutes.old) × (length slopes.old ≡ length minutes.old) × (length curvatures.old ≡ length minutes.old) }
-        ensures minutes_after { minutes.new ≡ (decoded self).minutes ++ drop self.knots minutes.old }
-        ensures ordinates_after { ordinates.new ≡ (decoded self).ordinates ++ drop self.knots ordinates.old }
-        ensures slopes_after { slopes.new ≡ (decoded self).slopes ++ drop self.knots slopes.old }
-        ensures curvatures_after { curvatures.new ≡ (decoded self).curvatures ++ drop self.knots curvatures.old }
+        requires full { Full self.now }
+        requires knots_in_bounds { (self.now.knots ≤ length minutes.old) × (length ordinates.old ≡ length minutes.old) × (length slopes.old ≡ length minutes.old) × (length curvatures.old ≡ length minutes.old) }
+        ensures minutes_after { minutes.new ≡ (decoded self.now).minutes ++ drop self.now.knots minutes.old }
+        ensures ordinates_after { ordinates.new ≡ (decoded self.now).ordinates ++ drop self.now.knots ordinates.old }
+        ensures slopes_after { slopes.new ≡ (decoded self.now).slopes ++ drop self.now.knots slopes.old }
+        ensures curvatures_after { curvatures.new ≡ (decoded self.now).curvatures ++ drop self.now.knots curvatures.old }
     {
-        let n = self.knots;
-        minutes[..n].copy_from_slice(&self.minutes[..n]);
-        ordinates[..n].copy_from_slice(&self.ordinates[..n]);
-        slopes[..n].copy_from_slice(&self.slopes[..n]);
-        curvatures[..n].copy_from_slice(&self.curvatures[..n]);
+        let held = self.lent();
+        let n = held.minutes.len();
+        minutes[..n].copy_from_slice(held.minutes);
+        ordinates[..n].copy_from_slice(held.ordinates);
+        slopes[..n].copy_from_slice(held.slopes);
+        curvatures[..n].copy_from_slice(held.curvatures);
     }
 }

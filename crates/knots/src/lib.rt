@@ -67,6 +67,17 @@ impl Kind {
     }
 }
 
+// A card as four lists lend it, with the codes of its ends.
+#[derive(Clone, Copy)]
+pub struct Lent<'a> {
+    pub minutes: &'a [u16],
+    pub ordinates: &'a [i16],
+    pub slopes: &'a [i32],
+    pub curvatures: &'a [i32],
+    pub left: u16,
+    pub right: u16,
+}
+
 // ---- steps without lists
 
 // 3.

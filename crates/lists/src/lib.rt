@@ -9,7 +9,7 @@ ghost use Rattle.curve.specs.Kind.{quintic, end};
 ghost use Rattle.curve.specs.Steps.{stands, smooth};
 ghost use Rattle.curve.specs.Orders.{numbers_sound, sound};
 ghost use Rattle.knots.specs.Kinds.{kind_of};
-ghost use Rattle.knots.specs.Lent.{lent};
+ghost use Rattle.knots.specs.Lent.{lent, card_lent};
 ghost use Rattle.jumps.specs.Sides.{order_of};
 ghost use Rattle.jumps.specs.declared.Order.TheVariants.{Third, Fourth};
 ghost use Rattle.jumps.specs.Limits.{Meeting};
@@ -19,7 +19,7 @@ use answer::{Judged, Reason, Refusal};
 use gap_curve::GapCurve;
 use gaps::Knot;
 use jumps::{Order, Span, Spans};
-use knots::Kind;
+use knots::{Kind, Lent};
 use minutes::Left;
 use reading::Reading;
 
@@ -223,42 +223,26 @@ impl<'a> Lists<'a> {
 // ---- the orders
 
 // "9; 10", of lists that 4, 5 and 6 accept.
-pub fn numbers_sound(
-    kind: Kind,
-    left: u16,
-    right: u16,
-    xs: &[u16],
-    ys: &[i16],
-    ms: &[i32],
-    cs: &[i32],
-) -> Judged
-    requires long { Long xs.now ys.now ms.now cs.now }
-    requires xs_value { each (stands quintic xs.now ys.now) 0 (length xs.now) ≡ accepted }
-    ensures { verdict_of result ≡ numbers_sound (kind_of kind) (lent xs.now ys.now ms.now cs.now left right) }
+pub fn numbers_sound(kind: Kind, card: Lent<'_>) -> Judged
+    requires long { Long card.minutes.now card.ordinates.now card.slopes.now card.curvatures.now }
+    requires stand { each (stands quintic card.minutes.now card.ordinates.now) 0 (length card.minutes.now) ≡ accepted }
+    ensures { verdict_of result ≡ numbers_sound (kind_of kind) (card_lent card.entry) }
 {
-    knots::in_range(xs, ms, cs)?;
+    knots::in_range(card.minutes, card.slopes, card.curvatures)?;
     let lists = Lists {
-        minutes: xs,
-        ordinates: ys,
-        slopes: ms,
-        curvatures: cs,
+        minutes: card.minutes,
+        ordinates: card.ordinates,
+        slopes: card.slopes,
+        curvatures: card.curvatures,
     };
-    lists.smooth(kind, left, right)
+    lists.smooth(kind, card.left, card.right)
 }
 
 // "Per knot 4, 5, 6; 9; 10."
-pub fn sound(
-    kind: Kind,
-    left: u16,
-    right: u16,
-    xs: &[u16],
-    ys: &[i16],
-    ms: &[i32],
-    cs: &[i32],
-) -> Judged
-    requires { Long xs.now ys.now ms.now cs.now }
-    ensures { verdict_of result ≡ sound (kind_of kind) (lent xs.now ys.now ms.now cs.now left right) }
+pub fn sound(kind: Kind, card: Lent<'_>) -> Judged
+    requires { Long card.minutes.now card.ordinates.now card.slopes.now card.curvatures.now }
+    ensures { verdict_of result ≡ sound (kind_of kind) (card_lent card.entry) }
 {
-    knots::stand(xs, ys)?;
-    numbers_sound(kind, left, right, xs, ys, ms, cs)
+    knots::stand(card.minutes, card.ordinates)?;
+    numbers_sound(kind, card)
 }

@@ -47,16 +47,7 @@ fn sound(kind: Kind, card: &Card) -> Judged
     requires { Full card.now }
     ensures { verdict_of result ≡ sound (kind_of kind) (decoded card.now) }
 {
-    let n = card.knots;
-    lists::sound(
-        kind,
-        card.left,
-        card.right,
-        &card.minutes[..n],
-        &card.ordinates[..n],
-        &card.slopes[..n],
-        &card.curvatures[..n],
-    )
+    lists::sound(kind, card.lent())
 }
 
 // The lists of a card that can be read.
@@ -65,12 +56,12 @@ pub fn lists(card: &Card) -> Lists<'_>
     requires { Readable card.now }
     ensures { lent result.minutes.now result.ordinates.now result.slopes.now result.curvatures.now card.now.left card.now.right ≡ decoded card.now }
 {
-    let n = card.knots;
+    let held = card.lent();
     Lists {
-        minutes: &card.minutes[..n],
-        ordinates: &card.ordinates[..n],
-        slopes: &card.slopes[..n],
-        curvatures: &card.curvatures[..n],
+        minutes: held.minutes,
+        ordinates: held.ordinates,
+        slopes: held.slopes,
+        curvatures: held.curvatures,
     }
 }
 

@@ -10,11 +10,11 @@ use Rattle.lists.proofs.numbers_sound.Goals as goal
 pub returns-in_err-in_range : goal.returns-in_err-in_range
 unfolding numbers_sound knots
 returns-in_err-in_range c =
-    let ranged = c.in_err-in_range.ensures c.args.ys.now c.args.left c.args.right in
+    let ranged = c.in_err-in_range.ensures c.args.card.ordinates.now c.args.card.left c.args.card.right in
     exits _ _ c.from_residual.ensures.1 ∙ rw (in_range_same c.args.kind, ← ranged, then_refused)
 
 pub returns : goal.returns
 unfolding numbers_sound knots
 returns c =
-    let ranged = c.in_ok-in_range.ensures c.args.ys.now c.args.left c.args.right in
+    let ranged = c.in_ok-in_range.ensures c.args.card.ordinates.now c.args.card.left c.args.card.right in
     c.smooth.ensures ∙ rw (in_range_same c.args.kind, ← ranged, then_accepted)
