@@ -110,16 +110,10 @@ fn asked(n: usize, parts: u16, count: u16) -> Judged
     requires { (0 < n) × (n < 65536) }
     ensures { verdict_of result ≡ (parted parts then past n parts count) }
 {
-    answer::refuse(
-        Reason::UnfitParts,
-        0,
-        parts < FEWEST_PARTS || MOST_PARTS < parts,
-    )?;
-    answer::refuse(
-        Reason::Outside,
-        0,
-        (n - 1) * (parts as usize) < count as usize,
-    )
+    let unfit = parts < FEWEST_PARTS || MOST_PARTS < parts;
+    answer::refuse(Reason::UnfitParts, 0, unfit)?;
+    let behind = (n - 1) * (parts as usize) < count as usize;
+    answer::refuse(Reason::Outside, 0, behind)
 }
 
 // ---- answered
