@@ -42,7 +42,7 @@ pub fn list_card(card: &[u8], text: &mut [u8]) -> Listed
         &ordinates[..n],
         &slopes[..n],
         &curvatures[..n],
-        b"",
+        &[],
         text,
     );
     Listed {
