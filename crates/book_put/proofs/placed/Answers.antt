@@ -1,5 +1,5 @@
 -- `placed` meets its contract: the book's refusal, the card's own, 21. Assumes nothing.
-use mathlib.Core.Path.{◌≡◌, refl, sym, ap, ◌∙◌}
+use mathlib.Core.Path.{refl, sym, ◌∙◌}
 use Rattle.answer.proofs.Chain.{step_refuses, step_passes}
 use Rattle.book.proofs.Answers.{walk_refused, Walks, walk_sound, exits_used}
 use Rattle.book_put.proofs.Answers.{puts_refused, put_refused, put_of, made_of}

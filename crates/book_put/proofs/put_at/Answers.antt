@@ -1,5 +1,5 @@
 -- `put_at` meets its contract: 21 by the size of the new book, else the new book is written. Assumes nothing.
-use mathlib.Core.Path.{◌≡◌, refl, ◌∙◌}
+use mathlib.Core.Path.{refl, ◌∙◌}
 use native.Mathlib.Omega.{arith}
 use Rattle.little_endian.specs.Numbers.{Bytes}
 use Rattle.book.proofs.Answers.{Walks, walk_sound}

@@ -1,12 +1,12 @@
 -- `taken` meets its contract: the book's refusal, 20, else what stands behind the room moves up. Assumes nothing.
-use mathlib.Core.Path.{◌≡◌, sym, ◌∙◌}
+use mathlib.Core.Path.{sym, ◌∙◌}
 use native.Mathlib.Omega.{arith}
 use Rattle.little_endian.specs.Numbers.{Bytes}
 use Rattle.book.proofs.Answers.{walk_refused, Walks, walk_sound, exits_used}
 use Rattle.book_put.proofs.Answers.{puts_refused, puts_given, slot_inside}
 use Rattle.book_remove.proofs.Answers.{remove_refused, room_absent, is_out, new_size, new_bytes}
 use Rattle.book_remove.proofs.taken.Goals as goal
-use Rattle.book_remove.proofs.taken.Goals.{In_ok-slot, In_ok-refuse}
+use Rattle.book_remove.proofs.taken.Goals.{In_ok-slot, In_ok-refuse, After-slice_known-1}
 
 pub returns-in_err-slot : goal.returns-in_err-slot
 returns-in_err-slot c =
@@ -19,9 +19,9 @@ pub returns-in_err-refuse : goal.returns-in_err-refuse
 returns-in_err-refuse c =
     puts_refused (room_absent (walks (goal.at.returns-in_err-refuse c).In_ok-slot) c.in_err-refuse.ensures) (exits_used _ _ c.from_residual-in_err-refuse.ensures.1)
 
-bytes : (c : In_ok-refuse) → Bytes c.args.buffer.now
+bytes : (c : After-slice_known-1) → Bytes c.args.buffer.now
 unfolding Bytes
-bytes c i = omega (arith, c.type_inv.buffer i)
+bytes c i = omega (arith, c.slice_known-1.given i)
 
 pub overflow_add-from : goal.overflow_add-from
 overflow_add-from c = let w = walks (goal.at.overflow_add-from c).In_ok-slot in omega (arith, slot_inside w, w.within)
@@ -47,4 +47,4 @@ returns c =
     let w = walks (goal.at.returns c).In_ok-slot in
     let k = (goal.at.returns c).In_ok-refuse in
     let h = k.in_ok-refuse.ensures in
-    puts_given (is_out w h) (new_size w h) (c.slide.ensures ∙ new_bytes w h (bytes k))
+    puts_given (is_out w h) (new_size w h) (c.slide.ensures ∙ new_bytes w h (bytes (goal.at.returns c).After-slice_known-1))
