@@ -4,3 +4,4 @@ pub mod Chain
 pub mod Never
 pub mod Outcome
 pub mod Lent
+pub mod Orders

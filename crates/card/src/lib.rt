@@ -3,21 +3,22 @@
 #![tactic(auto)]
 
 ghost use Rattle.std.specs.Prelude.{◌≡◌};
-ghost use Rattle.answer.specs.Answer.{accepted};
-ghost use Rattle.answer.specs.Judge.{verdict_of};
+ghost use Rattle.answer.specs.Answer.{accepted, refused};
+ghost use Rattle.answer.specs.Judge.{number_of, verdict_of};
+ghost use Rattle.curve.specs.Kind as Curve;
+ghost use Rattle.curve.specs.Card as Held;
 ghost use Rattle.curve.specs.Orders.{lists_order};
 ghost use Rattle.knots.specs.Kinds.{kind_of};
-ghost use Rattle.lists.specs.Lists.{answer_at};
 ghost use Rattle.card_bytes.specs.Held.{card_of};
 ghost use Rattle.card_bytes.specs.Records.{kind_by};
 ghost use Rattle.decode.specs.Decoded.{decoded, Full};
-ghost use Rattle.opened.specs.Readable.{Readable};
 ghost use Rattle.card.specs.Answers.{own, checked, read_off};
 ghost use Rattle.card.specs.Promise.{lists, Reads};
 
-use answer::Judged;
+use answer::{Judged, Refusal};
 use decode::Card;
 use knots::Kind;
+use lists::CardReading;
 use opened::Opened;
 
 // ---- the card test
@@ -35,27 +36,35 @@ pub struct Checked {
 }
 
 impl Checked {
-    fn of(verdict: Judged, kind: Kind, card: Card) -> Checked
-        requires { verdict_of verdict ≡ accepted → Full card }
-        ensures { result ≡ checked (verdict_of verdict) (kind_of kind) (decoded card) }
+    // Of a card that is accepted.
+    #[tactic(auto, unfolding(crate::specs::Answers::checked))]
+    fn of(kind: Kind, card: &Card) -> Checked
+        requires { Full card.now }
+        ensures { result ≡ checked accepted (kind_of kind) (decoded card.now) }
     {
-        match verdict {
-            Judged::Refused(number, place) => Checked {
-                number,
-                place,
-                knots: 0,
-                left: 0,
-                right: 0,
-                kind: 0,
-            },
-            Judged::Accepted => Checked {
-                number: 0,
-                place: 0,
-                knots: card.knots as u32,
-                left: card.left as u32,
-                right: card.right as u32,
-                kind: kind.head as u32,
-            },
+        Checked {
+            number: 0,
+            place: 0,
+            knots: card.knots as u32,
+            left: card.left as u32,
+            right: card.right as u32,
+            kind: kind.head as u32,
+        }
+    }
+}
+
+#[tactic(auto, unfolding(crate::specs::Answers::checked))]
+impl From<Refusal> for Checked {
+    ghost from_gives = { λ r c. (K : Curve.Kind) (held : Held.Card) → c ≡ checked (refused (number_of r.reason) r.place) K held };
+
+    fn from(refusal: Refusal) -> Checked {
+        Checked {
+            number: refusal.number(),
+            place: refusal.place,
+            knots: 0,
+            left: 0,
+            right: 0,
+            kind: 0,
         }
     }
 }
@@ -64,32 +73,28 @@ pub fn check(card: &[u8]) -> Checked
     ensures { result ≡ checked (own card.now) (kind_by card.now) (card_of card.now) }
 {
     let opened = Opened::by_head(card);
-    let verdict = opened.verdict;
-    let kind = opened.kind;
-    let held = opened.card;
-    Checked::of(verdict, kind, held)
+    match opened.verdict {
+        Err(refusal) => Checked::from(refusal),
+        Ok(()) => Checked::of(opened.kind, &opened.card),
+    }
 }
 
 // ---- the card into lent lists
 
 // 3, the card's, 26: of a card that was opened, and the lengths of four lists.
+#[tactic(auto, using(answer::proofs::Orders::orders), unfolding(curve::specs::Orders::lists_order))]
 pub fn into(
-    opened: Opened,
+    opened: &Opened,
     minutes: usize,
     ordinates: usize,
     slopes: usize,
     curvatures: usize,
 ) -> Judged
-    ensures { verdict_of result ≡ lists_order minutes ordinates slopes curvatures (verdict_of opened.verdict) opened.card.knots }
+    ensures { verdict_of result ≡ lists_order minutes ordinates slopes curvatures (verdict_of opened.now.verdict) opened.now.card.knots }
 {
-    let verdict = opened.verdict;
-    match knots::same_lengths(minutes, ordinates, slopes, curvatures) {
-        Judged::Refused(number, place) => Judged::Refused(number, place),
-        Judged::Accepted => match verdict {
-            Judged::Refused(number, place) => Judged::Refused(number, place),
-            Judged::Accepted => knots::room(opened.card.knots, minutes),
-        },
-    }
+    knots::same_lengths(minutes, ordinates, slopes, curvatures)?;
+    opened.verdict?;
+    knots::room(opened.card.knots, minutes)
 }
 
 // On acceptance n places of each list are written.
@@ -105,52 +110,30 @@ pub fn read(
         (lists minutes.exit ordinates.exit slopes.exit curvatures.exit) result }
 {
     let opened = Opened::by_head(card);
-    let kind = opened.kind;
-    let held = opened.card;
-    let verdict = into(
-        opened,
+    match into(
+        &opened,
         minutes.len(),
         ordinates.len(),
         slopes.len(),
         curvatures.len(),
-    );
-    if let Judged::Refused(_, _) = verdict {
-        return Checked::of(verdict, kind, held);
+    ) {
+        Err(refusal) => Checked::from(refusal),
+        Ok(()) => {
+            opened.card.give(minutes, ordinates, slopes, curvatures);
+            Checked::of(opened.kind, &opened.card)
+        }
     }
-    held.give(minutes, ordinates, slopes, curvatures);
-    Checked::of(verdict, kind, held)
 }
 
 // ---- the reading
 
-// 11, or what a sound card reads at a minute.
-fn read_off(card: Card, minute: u16) -> lists::CardReading
-    requires { Readable card }
-    ensures { result ≡ answer_at accepted (decoded card) minute }
-{
-    let n = card.knots;
-    let minutes = card.minutes;
-    let ordinates = card.ordinates;
-    let slopes = card.slopes;
-    let curvatures = card.curvatures;
-    lists::read_at(
-        &minutes[..n],
-        &ordinates[..n],
-        &slopes[..n],
-        &curvatures[..n],
-        minute,
-    )
-}
-
 // The card's, then 11.
-pub fn reading(card: &[u8], minute: u16) -> lists::CardReading
+pub fn reading(card: &[u8], minute: u16) -> CardReading
     ensures { result ≡ read_off card.now minute }
 {
     let opened = Opened::by_head(card);
-    let verdict = opened.verdict;
-    let held = opened.card;
-    match verdict {
-        Judged::Refused(number, place) => lists::CardReading::refused(number, place),
-        Judged::Accepted => read_off(held, minute),
+    match opened.verdict {
+        Err(refusal) => CardReading::from(refusal),
+        Ok(()) => opened::lists(&opened.card).read_at(minute),
     }
 }

@@ -18,13 +18,9 @@ pub fn put_words(text: &mut [u8], at: usize, words: &[u8]) -> usize
     requires { at + length words.now ≤ length text.old }
     ensures { Put words.now text.old text.new at result }
 {
-    let mut next = at;
-    let mut i: usize = 0;
-    while i < words.len() {
-        next = put_byte(text, next, words[i]);
-        i += 1;
-    }
-    next
+    let end = at + words.len();
+    text[at..end].copy_from_slice(words);
+    end
 }
 
 pub fn put_decimal(text: &mut [u8], at: usize, number: u64) -> usize
@@ -39,15 +35,10 @@ pub fn put_decimal(text: &mut [u8], at: usize, number: u64) -> usize
     put_byte(text, next, digit)
 }
 
-// The negative numbers reach one further than the others, so one goes by its complement.
 pub fn magnitude(number: i64) -> u64
     ensures { result ≡ nat_abs number }
 {
-    if number < 0 {
-        (!number) as u64 + 1
-    } else {
-        number as u64
-    }
+    number.unsigned_abs()
 }
 
 pub fn put_signed(text: &mut [u8], at: usize, number: i64) -> usize

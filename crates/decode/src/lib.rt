@@ -2,10 +2,11 @@
 #![tactic(auto)]
 
 ghost use Rattle.std.specs.Prelude.{◌≡◌, ◌≤◌, ◌++◌, length, drop};
+ghost use Rattle.knots.specs.Lent.{card_lent};
 ghost use Rattle.card_bytes.specs.Held.{start, count_at};
 ghost use Rattle.decode.specs.Decoded.{most, held, none, decoded, Full};
 
-use knots::Kind;
+use knots::{Kind, Lent};
 
 // Its numbers, decoded once: each list at the front of an array, zeros behind it.
 #[derive(Clone, Copy)]
@@ -24,18 +25,14 @@ impl Card {
     pub fn none() -> Card
         ensures { result ≡ none }
     {
-        let minutes = [0u16; Kind::MOST];
-        let ordinates = [0i16; Kind::MOST];
-        let slopes = [0i32; Kind::MOST];
-        let curvatures = [0i32; Kind::MOST];
         Card {
             knots: 0,
             left: 0,
             right: 0,
-            minutes,
-            ordinates,
-            slopes,
-            curvatures,
+            minutes: [0; Kind::MOST],
+            ordinates: [0; Kind::MOST],
+            slopes: [0; Kind::MOST],
+            curvatures: [0; Kind::MOST],
         }
     }
 
@@ -49,14 +46,12 @@ impl Card {
         let mut ordinates = [0i16; Kind::MOST];
         let mut slopes = [0i32; Kind::MOST];
         let mut curvatures = [0i32; Kind::MOST];
-        let mut i: usize = 0;
-        while i < n {
+        for i in 0..n {
             let at = 10 + 16 * i;
             minutes[i] = little_endian::read_u16(list, at + 4);
             ordinates[i] = little_endian::read_i16(list, at + 6);
             slopes[i] = little_endian::read_i32(list, at + 8);
             curvatures[i] = little_endian::read_i32(list, at + 12);
-            i += 1;
         }
         Card {
             knots: n,
@@ -69,33 +64,44 @@ impl Card {
         }
     }
 
+    // Its lists, as long as it has knots, and the codes of its ends.
+    #[tactic(auto, unfolding(crate::specs::Decoded::decoded))]
+    pub fn lent(&self) -> Lent<'_>
+        requires { Full self.now }
+        ensures { card_lent result ≡ decoded self.now }
+    {
+        let n = self.knots;
+        Lent {
+            minutes: &self.minutes[..n],
+            ordinates: &self.ordinates[..n],
+            slopes: &self.slopes[..n],
+            curvatures: &self.curvatures[..n],
+            left: self.left,
+            right: self.right,
+        }
+    }
+
     // Its numbers over the fronts of four lists that have room for them.
+    #[tactic(auto, unfolding(crate::specs::Decoded::decoded))]
     pub fn give(
-        self,
+        &self,
         minutes: &mut [u16],
         ordinates: &mut [i16],
         slopes: &mut [i32],
         curvatures: &mut [i32],
     )
-        requires full { Full self }
-        requires knots_in_bounds { (self.knots ≤ length minutes.old) × (length ordinates.old ≡ length minutes.old) × (length slopes.old ≡ length minutes.old) × (length curvatures.old ≡ length minutes.old) }
-        ensures minutes_after { minutes.new ≡ (decoded self).minutes ++ drop self.knots minutes.old }
-        ensures ordinates_after { ordinates.new ≡ (decoded self).ordinates ++ drop self.knots ordinates.old }
-        ensures slopes_after { slopes.new ≡ (decoded self).slopes ++ drop self.knots slopes.old }
-        ensures curvatures_after { curvatures.new ≡ (decoded self).curvatures ++ drop self.knots curvatures.old }
+        requires full { Full self.now }
+        requires knots_in_bounds { (self.now.knots ≤ length minutes.old) × (length ordinates.old ≡ length minutes.old) × (length slopes.old ≡ length minutes.old) × (length curvatures.old ≡ length minutes.old) }
+        ensures minutes_after { minutes.new ≡ (decoded self.now).minutes ++ drop self.now.knots minutes.old }
+        ensures ordinates_after { ordinates.new ≡ (decoded self.now).ordinates ++ drop self.now.knots ordinates.old }
+        ensures slopes_after { slopes.new ≡ (decoded self.now).slopes ++ drop self.now.knots slopes.old }
+        ensures curvatures_after { curvatures.new ≡ (decoded self.now).curvatures ++ drop self.now.knots curvatures.old }
     {
-        let n = self.knots;
-        let xs = self.minutes;
-        let ys = self.ordinates;
-        let ms = self.slopes;
-        let cs = self.curvatures;
-        let mut place: usize = 0;
-        while place < n {
-            minutes[place] = xs[place];
-            ordinates[place] = ys[place];
-            slopes[place] = ms[place];
-            curvatures[place] = cs[place];
-            place += 1;
-        }
+        let held = self.lent();
+        let n = held.minutes.len();
+        minutes[..n].copy_from_slice(held.minutes);
+        ordinates[..n].copy_from_slice(held.ordinates);
+        slopes[..n].copy_from_slice(held.slopes);
+        curvatures[..n].copy_from_slice(held.curvatures);
     }
 }

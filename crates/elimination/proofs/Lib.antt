@@ -1,3 +1,3 @@
-pub mod Infinity
+pub mod Words
 pub mod Cases
 pub mod Examples

@@ -4,7 +4,7 @@
 
 ghost use Rattle.std.specs.Prelude.{◌≡◌, cond};
 ghost use Rattle.rows.specs.Equations.{zeros};
-ghost use Rattle.elimination.specs.Elimination.{◌times◌, ◌on◌, ◌less◌, ◌minus◌, reduced, system, det, solution, columns, state, zero_pair, zero_state, backward};
+ghost use Rattle.elimination.specs.Elimination.{reduced, system, det, solution, columns, state, zero_pair, zero_state, backward};
 ghost use Rattle.elimination.specs.Refusal.{is_finite, both_finite, all_finite, usable, passed, judged, solved, eliminated};
 
 use rows::{Block, Pair, Row, ZEROS};
@@ -23,13 +23,6 @@ pub struct State {
     pub p: Pair,
 }
 
-// A knot that is eliminated, or one that meets number 8.
-#[derive(Drop)]
-pub enum Step {
-    Went(State),
-    Stuck,
-}
-
 // What stands before the last knot's pair is known, and behind a refusal.
 pub fn no_pair() -> Pair
     ensures { result ≡ zero_pair }
@@ -41,48 +34,9 @@ pub fn no_pair() -> Pair
 pub fn start() -> State
     ensures { result ≡ zero_state }
 {
-    let h = ZEROS;
-    let p = Pair { s: 0.0, c: 0.0 };
-    State { h, p }
-}
-
-fn multiply(m: Block, n: Block) -> Block
-    ensures { result ≡ m times n }
-{
-    Block {
-        e11: m.e11 * n.e11 + m.e12 * n.e21,
-        e12: m.e11 * n.e12 + m.e12 * n.e22,
-        e21: m.e21 * n.e11 + m.e22 * n.e21,
-        e22: m.e21 * n.e12 + m.e22 * n.e22,
-    }
-}
-
-fn apply(m: Block, v: Pair) -> Pair
-    ensures { result ≡ m on v }
-{
-    Pair {
-        s: m.e11 * v.s + m.e12 * v.c,
-        c: m.e21 * v.s + m.e22 * v.c,
-    }
-}
-
-fn subtract(m: Block, n: Block) -> Block
-    ensures { result ≡ m less n }
-{
-    Block {
-        e11: m.e11 - n.e11,
-        e12: m.e12 - n.e12,
-        e21: m.e21 - n.e21,
-        e22: m.e22 - n.e22,
-    }
-}
-
-fn subtract_pair(v: Pair, w: Pair) -> Pair
-    ensures { result ≡ v minus w }
-{
-    Pair {
-        s: v.s - w.s,
-        c: v.c - w.c,
+    State {
+        h: ZEROS,
+        p: Pair { s: 0.0, c: 0.0 },
     }
 }
 
@@ -90,19 +44,19 @@ fn subtract_pair(v: Pair, w: Pair) -> Pair
 fn reduce(row: Row, before: State) -> System
     ensures { result ≡ reduced row before }
 {
-    let s = subtract(row.a, multiply(row.l, before.h));
-    let t = subtract_pair(row.k, apply(row.l, before.p));
-    System { s, t }
+    System {
+        s: row.a - row.l * before.h,
+        t: row.k - row.l * before.p,
+    }
 }
 
 // At the first knot S = A, t = k.
+#[tactic(auto, unfolding(crate::specs::Elimination::system))]
 fn system_of(row: Row, before: State, first: bool) -> System
     ensures { result ≡ system row before first }
 {
     if first {
-        let s = row.a;
-        let t = row.k;
-        System { s, t }
+        System { s: row.a, t: row.k }
     } else {
         reduce(row, before)
     }
@@ -145,78 +99,60 @@ fn solve_columns(s: Block, d: f64, r: Block, last: bool) -> Block
 fn state_of(y: System, d: f64, r: Block, last: bool) -> State
     ensures { result ≡ state y d r last }
 {
-    let h = solve_columns(y.s, d, r, last);
-    let p = solve(y.s, d, y.t.s, y.t.c);
-    State { h, p }
+    State {
+        h: solve_columns(y.s, d, r, last),
+        p: solve(y.s, d, y.t.s, y.t.c),
+    }
 }
 
 // P − H·(next pair).
 pub fn back(x: State, next: Pair) -> Pair
     ensures { result ≡ backward x next }
 {
-    subtract_pair(x.p, apply(x.h, next))
+    x.p - x.h * next
 }
 
+#[tactic(auto, using(crate::proofs::Words::finite_is))]
 pub fn finite(x: f64) -> bool
     ensures { result ≡ is_finite x }
 {
-    let top = 1.0 / 0.0;
-    if x < top { -top < x } else { false }
+    x.is_finite()
 }
 
 pub fn finite_pair(v: Pair) -> bool
     ensures { result ≡ both_finite v }
 {
-    if finite(v.s) { finite(v.c) } else { false }
+    finite(v.s) && finite(v.c)
 }
 
 fn finite_block(m: Block) -> bool
     ensures { result ≡ all_finite m }
 {
-    if finite(m.e11) {
-        if finite(m.e12) {
-            if finite(m.e21) { finite(m.e22) } else { false }
-        } else {
-            false
-        }
-    } else {
-        false
-    }
+    finite(m.e11) && finite(m.e12) && finite(m.e21) && finite(m.e22)
 }
 
 fn can_divide(d: f64) -> bool
     ensures { result ≡ usable d }
 {
-    if finite(d) { d != 0.0 } else { false }
+    finite(d) && d != 0.0
 }
 
 fn sound(d: f64, x: State) -> bool
     ensures { result ≡ passed d x }
 {
-    if can_divide(d) {
-        if finite_pair(x.p) {
-            finite_block(x.h)
-        } else {
-            false
-        }
-    } else {
-        false
-    }
+    can_divide(d) && finite_pair(x.p) && finite_block(x.h)
 }
 
-// The tests of 8 at a knot that was divided by d.
-pub fn judge(d: f64, x: State) -> Step
+// The tests of 8 at a knot that was divided by d: nothing where it is met.
+pub fn judge(d: f64, x: State) -> Option<State>
     ensures { result ≡ judged d x }
 {
-    if sound(d, x) {
-        Step::Went(x)
-    } else {
-        Step::Stuck
-    }
+    sound(d, x).then_some(x)
 }
 
 // Solves a knot; the determinant that its numbers are divided by is the one that is tested.
-fn settle(y: System, r: Block, last: bool) -> Step
+#[tactic(auto, unfolding(crate::specs::Refusal::solved))]
+fn settle(y: System, r: Block, last: bool) -> Option<State>
     ensures { result ≡ solved y r last }
 {
     let d = determinant(y.s);
@@ -224,7 +160,8 @@ fn settle(y: System, r: Block, last: bool) -> Step
 }
 
 // One knot, given what elimination left of the one before.
-pub fn eliminate(row: Row, before: State, first: bool, last: bool) -> Step
+#[tactic(auto, unfolding(crate::specs::Refusal::eliminated))]
+pub fn eliminate(row: Row, before: State, first: bool, last: bool) -> Option<State>
     ensures { result ≡ eliminated row before first last }
 {
     settle(system_of(row, before, first), row.r, last)

@@ -6,10 +6,10 @@ ghost use Rattle.std.specs.Prelude.{◌≡◌, ◌+◌, ◌^◌, ◌≤◌, ◌<
 ghost use Rattle.std.proofs.lemmas.List.Edits.{sets};
 ghost use Rattle.curve.specs.Steps.{size};
 ghost use Rattle.knots.specs.Kinds.{kind_of};
-ghost use Rattle.knots.specs.Lent.{lent};
+ghost use Rattle.knots.specs.Lent.{card_lent};
 ghost use Rattle.card_bytes.specs.Bytes.{head_bytes, a_knot, knot_bytes, end_bytes, bytes_of};
 
-use knots::Kind;
+use knots::{Kind, Lent};
 
 fn put_head(buffer: &mut [u8], head: u16, n: u16, left: u16, right: u16)
     requires { 10 ≤ length buffer.old }
@@ -43,34 +43,23 @@ fn put_end(buffer: &mut [u8], at: usize)
 }
 
 // A card's bytes at the front of a buffer that has room for them.
-pub fn put_card(
-    kind: Kind,
-    minutes: &[u16],
-    ordinates: &[i16],
-    slopes: &[i32],
-    curvatures: &[i32],
-    left: u16,
-    right: u16,
-    buffer: &mut [u8],
-)
-    requires minutes_len_bound { length minutes.now < 2 ^ 16 }
-    requires ordinates_len { (length ordinates.now ≡ length minutes.now) × (length slopes.now ≡ length minutes.now) × (length curvatures.now ≡ length minutes.now) }
-    requires minutes_in_bounds { size (length minutes.now) ≤ length buffer.old }
-    ensures { buffer.new ≡ sets buffer.old 0 (bytes_of (kind_of kind) (lent minutes.now ordinates.now slopes.now curvatures.now left right)) }
+pub fn put_card(kind: Kind, card: Lent<'_>, buffer: &mut [u8])
+    requires minutes_len_bound { length card.minutes.now < 2 ^ 16 }
+    requires ordinates_len { (length card.ordinates.now ≡ length card.minutes.now) × (length card.slopes.now ≡ length card.minutes.now) × (length card.curvatures.now ≡ length card.minutes.now) }
+    requires minutes_in_bounds { size (length card.minutes.now) ≤ length buffer.old }
+    ensures { buffer.new ≡ sets buffer.old 0 (bytes_of (kind_of kind) (card_lent card.entry)) }
 {
-    let n = minutes.len();
-    put_head(buffer, kind.head, n as u16, left, right);
-    let mut row: usize = 0;
-    while row < n {
+    let n = card.minutes.len();
+    put_head(buffer, kind.head, n as u16, card.left, card.right);
+    for row in 0..n {
         put_knot(
             buffer,
             10 + 16 * row,
-            minutes[row],
-            ordinates[row],
-            slopes[row],
-            curvatures[row],
+            card.minutes[row],
+            card.ordinates[row],
+            card.slopes[row],
+            card.curvatures[row],
         );
-        row += 1;
     }
     put_end(buffer, 10 + 16 * n);
 }

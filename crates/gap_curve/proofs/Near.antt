@@ -2,7 +2,7 @@
 -- bits. Assumes nothing.
 use mathlib.Core.Path.{◌≡◌, ◌∙◌, ap}
 use mathlib.Core.List.{[], ◌∷◌}
-use Prim.Native.Nat.{ℕ, ◌+◌, ◌-◌, ◌*◌, ◌≤◌, ◌<◌, ◌^◌}
+use Prim.Native.Nat.{ℕ, ◌*◌, ◌≤◌, ◌^◌}
 use native.Mathlib.Nat.{mul_comm, mul_assoc, mul_left_comm, mul-le-mul, mul-le-mul_left, one-le-pow, pow-suc, le_of_mul-le-mul_right}
 use native.Mathlib.Omega.{arith}
 use lib.IntN.{ℤ, nat_abs}
@@ -13,7 +13,7 @@ use Rattle.gaps.specs.declared.Knot.{Knot}
 use Rattle.gaps.specs.Knots.{mirror}
 use Rattle.gaps.specs.Limits.{widest, InGap, Limits, Keeps}
 use Rattle.gaps.proofs.Kept.{mirror_keeps}
-use Rattle.weights.specs.declared.Quantity.TheVariants.{Value, Slope, Curvature}
+use Rattle.weights.specs.declared.Quantity.TheVariants.{Slope, Curvature}
 use Rattle.parts.specs.Limits.{most, Tame}
 use Rattle.parts.proofs.Numerators.{GapFits, gap_of}
 use Rattle.gap_curve.specs.GapCurve.{side}

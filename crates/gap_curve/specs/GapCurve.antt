@@ -2,7 +2,7 @@
 -- P of degree 2,
 --   P(τ) = 8192 y h²  +  (3 h 8192 y + 2 h² m) τ  +  (6 (8192 y + h m) + h² M) τ²
 -- and P' so from the right knot, its slope with a minus. Assumes nothing.
-use Rattle.std.specs.Prelude.{ℕ, ◌*◌, ◌^◌, ℤ, nat_abs, ◌+ℤ◌, ◌-ℤ◌, ◌*ℤ◌}
+use Rattle.std.specs.Prelude.{◌*◌, ◌^◌, ℤ, nat_abs, ◌+ℤ◌, ◌-ℤ◌, ◌*ℤ◌}
 use Rattle.whole.specs.Whole.{◌·◌, nearest}
 use Rattle.gaps.specs.declared.Knot.{Knot}
 use Rattle.gaps.specs.Knots.{mirror}

@@ -32,15 +32,17 @@ impl Side {
         requires keeps { Keeps near k }
         ensures { result ≡ side h k }
     {
-        let y = k.ordinate;
-        let m = k.slope;
-        let c = k.curvature;
-        let height = 8192 * y;
-        let reach = h * m;
+        let gaps::Knot {
+            ordinate,
+            slope,
+            curvature,
+        } = k;
+        let height = 8192 * ordinate;
+        let reach = h * slope;
         Side {
             level: h * h * height,
             rise: h * (3 * height + 2 * reach),
-            bend: 6 * (height + reach) + h * h * c,
+            bend: 6 * (height + reach) + h * h * curvature,
         }
     }
 }
@@ -74,6 +76,7 @@ fn value_share(level: i64, rise: i64, bend: i64, t: i64, s: i64) -> i64
 }
 
 // n / d, where it fits 32 bits.
+#[tactic(auto, using(std::proofs::lemmas::Int::ints))]
 fn rounded(n: i64, d: u64) -> i32
     requires d_nonzero { (0 < d) × (nat_abs n < 2 ^ 63) }
     requires d_bound { nat_abs (nearest n d) < 2 ^ 31 }
@@ -98,12 +101,10 @@ impl GapCurve {
         requires tame { Tame h a b }
         ensures { result ≡ laid h a b }
     {
-        let left = Side::of(h, a);
-        let right = Side::of(h, b.mirrored());
         GapCurve {
             h,
-            left,
-            right,
+            left: Side::of(h, a),
+            right: Side::of(h, b.mirrored()),
             under: parts::denominator(weights::Quantity::Value, h),
             base: parts::denominator(weights::Quantity::Slope, h),
         }
@@ -116,8 +117,7 @@ impl GapCurve {
         ensures { result ≡ added self t }
     {
         let s = self.h - t;
-        let left = self.left;
-        let right = self.right;
+        let GapCurve { left, right, .. } = self;
         let a = shares_of(left.level, left.rise, left.bend, t, s);
         let b = shares_of(right.level, right.rise, right.bend, s, t);
         Shares {
@@ -149,8 +149,7 @@ impl GapCurve {
         ensures { result ≡ (read_of self t).value }
     {
         let s = self.h - t;
-        let left = self.left;
-        let right = self.right;
+        let GapCurve { left, right, .. } = self;
         let a = value_share(left.level, left.rise, left.bend, t, s);
         let b = value_share(right.level, right.rise, right.bend, s, t);
         rounded(a + b, self.under)

@@ -14,17 +14,14 @@ pub struct Knot {
 
 impl Knot {
     // As it is seen with the minutes running the other way.
+    #[tactic(auto, using(std::proofs::lemmas::Int::ints), unfolding(crate::specs::Knots::mirror))]
     pub fn mirrored(self) -> Knot
         requires { nat_abs self.slope < 2 ^ 63 }
         ensures { result ≡ mirror self }
     {
-        let y = self.ordinate;
-        let m = self.slope;
-        let c = self.curvature;
         Knot {
-            ordinate: y,
-            slope: -m,
-            curvature: c,
+            slope: -self.slope,
+            ..self
         }
     }
 }

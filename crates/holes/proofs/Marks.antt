@@ -3,7 +3,7 @@
 use Prim.Native.Nat.{ℕ, zero, suc, ◌+◌, ◌-◌, ◌≤◌, ◌<◌}
 use native.Mathlib.Omega.{arith}
 use native.Mathlib.Numerals.{add-one}
-use mathlib.Core.Path.{◌≡◌, refl}
+use mathlib.Core.Path.{◌≡◌, refl, sym, ap, ◌∙◌}
 use mathlib.Core.Bool.{Bool, true, false, cond}
 use mathlib.Core.List.{List}
 use lib.IntN.{ℤ, pos, negsuc}
@@ -11,7 +11,11 @@ use lib.Dec.{eqb}
 use mir.Syntax.{w16}
 use mir.Val.{SFits, of_z}
 use borrow.Author.Tests.{eq-eqb, ne_eqb, eqb-true, eqb-false}
-use Rattle.holes.specs.Hole.{is_hole, hole_at, holes_to}
+use lib.ListN.{length, get_or, take}
+use lib.Seq.{take-length}
+use Rattle.std.specs.List.{count_by}
+use Rattle.std.proofs.lemmas.List.Sums.{count_by_more_yes, count_by_more_no}
+use Rattle.holes.specs.Hole.{is_hole, hole_at, holes_to, holes}
 
 pub hole_bits : (y : ℤ) → SFits w16 y → eqb (of_z w16 y) 32768 ≡ is_hole y
 unfolding is_hole
@@ -35,3 +39,16 @@ module _ (ys : List ℤ) where
   unfolding holes_to
   no_more_than_knots zero = omega arith
   no_more_than_knots (suc i) = omega (arith, no_more_than_knots i, at_most_one (hole_at ys i))
+
+  counted_to : (i : ℕ) → i ≤ length ys → count_by is_hole (take i ys) ≡ holes_to ys i
+  unfolding holes_to hole_at
+  counted_to zero h = refl
+  counted_to (suc i) h = ap (λ k. count_by is_hole (take k ys)) (sym (add-one i)) ∙ go (is_hole (get_or ys i (pos 0))) refl (counted_to i (omega arith))
+    where
+      go : (t : Bool) → is_hole (get_or ys i (pos 0)) ≡ t → count_by is_hole (take i ys) ≡ holes_to ys i → count_by is_hole (take (i + 1) ys) ≡ holes_to ys i + cond t 1 0
+      go true e r = count_by_more_yes is_hole ys i (pos 0) (omega arith) e ∙ ap (λ n. n + 1) r
+      go false e r = count_by_more_no is_hole ys i (pos 0) (omega arith) e ∙ r ∙ omega arith
+
+  pub holes_counted : count_by is_hole ys ≡ holes ys
+  unfolding holes
+  holes_counted = ap (count_by is_hole) (sym (take-length ys)) ∙ counted_to (length ys) (omega arith)

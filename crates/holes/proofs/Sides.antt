@@ -18,9 +18,10 @@ module _ (ys : List ℤ) where
   unfolding before
   before_sound i e = rw add-one (simp e)
 
-  pub before_first : before ys 0 ≡ 0
+  pub before_first : (i : ℕ) → i ≤ 0 → before ys i ≡ 0
   unfolding before
-  before_first = refl
+  before_first zero h = refl
+  before_first (suc i) h = absurd (omega arith)
 
   pub after_hole : (i n : ℕ) → i < n → hole_at ys i ≡ true → after ys i (n - i) ≡ after ys (i + 1) (n - (i + 1))
   unfolding after

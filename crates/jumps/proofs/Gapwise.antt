@@ -3,22 +3,20 @@
 use mathlib.Core.Path.{◌≡◌, refl, ap₂}
 use mathlib.Core.Bool.{Bool, true, false}
 use mathlib.Core.List.{List, [], ◌∷◌}
-use Prim.Native.Nat.{◌+◌, ◌*◌, ◌≤◌, ◌<◌, ◌^◌}
 use native.Mathlib.Nat.{mul-le-mul}
 use native.Mathlib.Omega.{arith}
 use lib.IntN.{ℤ, pos, nat_abs}
-use Rattle.whole.proofs.Solve.{E, ◌:+◌, ◌:-◌, ◌:*◌, :neg, #, ring, v0, v1}
+use Rattle.whole.proofs.Solve.{E, ◌:+◌, ◌:-◌, ◌:*◌, :neg, #, ring}
 use Rattle.curve.specs.Curve.{degree}
 use Rattle.curve.specs.Jump.{clear}
 use Rattle.gaps.specs.declared.Knot.{Knot}
 use Rattle.gaps.specs.Knots.{mirror}
-use Rattle.gaps.specs.Limits.{widest, Gap}
 use Rattle.gaps.proofs.Minutes.{gap_size}
 use Rattle.jumps.specs.declared.Order.{Order}
 use Rattle.jumps.specs.declared.Order.TheVariants.{Third, Fourth}
-use Rattle.jumps.specs.Sides.{order_of, side, opposed, left_side, clears, jump_of, leeway, leeways, past}
+use Rattle.jumps.specs.Sides.{side, opposed, left_side, jump_of, leeway, leeways, past}
 use Rattle.jumps.specs.Spans.{span, no_span, span_if, spans, no_spans, met_jump, met_leeways}
-use Rattle.jumps.specs.Limits.{Beside, Tried, Meeting}
+use Rattle.jumps.specs.Limits.{Tried, Meeting}
 use Rattle.jumps.proofs.Comparing.{rise, side_e, opposed_e, opposed_size, leeway_size, clears_most, h_gap, q_gap, products_fit}
 
 -- the slopes' and the curvatures' terms, with the gap's powers

@@ -13,8 +13,17 @@ ghost use Rattle.jumps.specs.Limits.{Held, Beside, Allowed, Meeting};
 // The derivatives whose jumps are tested at a knot.
 #[derive(Clone, Copy)]
 pub enum Order {
-    Third,
-    Fourth,
+    Third = 3,
+    Fourth = 4,
+}
+
+impl Order {
+    #[tactic(auto, unfolding(curve::specs::Curve::degree))]
+    pub fn number(self) -> u32
+        ensures { result ≡ degree (order_of self) }
+    {
+        self as u32
+    }
 }
 
 // How many g3 the fourth's allowance has.
@@ -25,20 +34,23 @@ fn side(order: Order, h: i64, here: gaps::Knot, next: gaps::Knot) -> i64
     requires { Held h here next }
     ensures { result ≡ side order h here next }
 {
-    let y = here.ordinate;
-    let m = here.slope;
-    let c = here.curvature;
-    let y1 = next.ordinate;
-    let m1 = next.slope;
-    let c1 = next.curvature;
-    let rise = 4096 * (y1 - y);
+    let rise = 4096 * (next.ordinate - here.ordinate);
     match order {
-        Order::Third => 20 * rise - (12 * m + 8 * m1) * h - (3 * c - c1) * h * h,
-        Order::Fourth => (16 * m + 14 * m1) * h + (3 * c - 2 * c1) * h * h - 30 * rise,
+        Order::Third => {
+            20 * rise
+                - (12 * here.slope + 8 * next.slope) * h
+                - (3 * here.curvature - next.curvature) * h * h
+        }
+        Order::Fourth => {
+            (16 * here.slope + 14 * next.slope) * h
+                + (3 * here.curvature - 2 * next.curvature) * h * h
+                - 30 * rise
+        }
     }
 }
 
 // Minus the side towards the left, of the side that the mirror shows: there the third changes its sign, and the fourth does not.
+#[tactic(auto, using(std::proofs::lemmas::Int::ints), unfolding(crate::specs::Sides::opposed))]
 fn opposed(order: Order, mirrored: i64) -> i64
     requires { nat_abs mirrored < 2 ^ 63 }
     ensures { result ≡ opposed order mirrored }
@@ -141,18 +153,12 @@ impl Spans {
         requires square_bound { nat_abs square ≤ 2 ^ 8 }
         ensures { result ≡ spans asked square h a b }
     {
-        let y = a.ordinate;
-        let m = a.slope;
-        let c = a.curvature;
-        let y1 = b.ordinate;
-        let m1 = b.slope;
-        let c1 = b.curvature;
-        let rise = 4096 * (y1 - y);
-        let s = m * h;
-        let s1 = m1 * h;
+        let rise = 4096 * (b.ordinate - a.ordinate);
+        let s = a.slope * h;
+        let s1 = b.slope * h;
         let area = h * h;
-        let v = c * area;
-        let v1 = c1 * area;
+        let v = a.curvature * area;
+        let v1 = b.curvature * area;
         let ahead = 20 * rise - (12 * s + 8 * s1) - (3 * v - v1);
         let behind = 12 * s1 + 8 * s - 20 * rise - (3 * v1 - v);
         let leeway = (square + 4 * h) * h;
@@ -196,16 +202,13 @@ impl Spans {
     }
 }
 
-// Whether a jump, of either sign, is over what is allowed. The sign is not asked first: no processor foresees
-// it, and a sound card takes neither branch.
+// Whether a jump, of either sign, is over what is allowed.
+#[tactic(auto, using(std::proofs::lemmas::Int::ints), unfolding(crate::specs::Sides::past))]
 fn over(jump: i64, allowed: i64) -> bool
     requires { nat_abs jump < 2 ^ 63 }
     ensures { result ≡ past jump allowed }
 {
-    if allowed < jump {
-        return true;
-    }
-    allowed < -jump
+    allowed < jump.abs()
 }
 
 // Whether a derivative jumps by more than its allowance where two gaps meet.

@@ -1,4 +1,2 @@
 pub mod Carried
-pub mod Stands
-pub mod Sides
 pub mod Accepted

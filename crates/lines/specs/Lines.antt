@@ -1,7 +1,7 @@
 -- Document 02, order 8, "Values with measured slopes": a knot's one equation, the third-derivative row with
 -- the given slopes moved to the right side, over any numbers and in binary64; and its elimination, "document
 -- 01's with one number per knot". Assumes nothing.
-use Rattle.std.specs.Prelude.{ℕ, Bool, cond, ℤ, pos, Float}
+use Rattle.std.specs.Prelude.{ℕ, Bool, cond, ℤ, pos, Float, Option}
 use Rattle.std.specs.Float.{binary64}
 use Rattle.std.specs.Float.Ieee.{of_bits, of_int}
 use Rattle.coefficients.specs.Coefficients.{Arithmetic}
@@ -10,7 +10,6 @@ use Rattle.rows.specs.declared.Gap.{Gap}
 use Rattle.rows.specs.Floats.{◌⊖◌, ◌⊗◌, ◌⊘◌, f0, floats}
 use Rattle.rows.specs.Equations.{pair, block, at}
 use Rattle.elimination.specs.declared.State.{State}
-use Rattle.elimination.specs.declared.Step.{Step}
 use Rattle.elimination.specs.Refusal.{judged}
 use Rattle.lines.specs.declared.Line.{Line}
 
@@ -67,11 +66,11 @@ abbrev pub single : (h p : Float) → State
 single h p = record { h = block f0 f0 f0 h; p = pair f0 p }
 
 -- "S standing for the determinant, and solving is one division by S"; zero stands for H at the last knot
-unfoldable pub line_solved : (s t r : Float) → Bool → Step
+unfoldable pub line_solved : (s t r : Float) → Bool → Option State
 line_solved s t r last = judged s (single (cond last f0 (r ⊘ s)) (t ⊘ s))
 
 -- a knot with this equation, once the knot before is eliminated
-unfoldable pub line_eliminated : Line → State → Bool → Bool → Step
+unfoldable pub line_eliminated : Line → State → Bool → Bool → Option State
 line_eliminated x before first last = line_solved (reduced x.a x.l before.h.e22 first) (reduced x.k x.l before.p.c first) x.r last
 
 -- P − H·(next curvature)

@@ -7,8 +7,8 @@
 ghost use Rattle.std.specs.Prelude.{◌≡◌};
 ghost use Rattle.lines.specs.Lines.{hundredths, line, reduced, single, line_solved, line_eliminated, line_back};
 
-use elimination::{State, Step};
-use rows::{Block, Gap, Pair};
+use elimination::State;
+use rows::{Block, Gap, Pair, ZEROS};
 
 // A knot's equation: L·(curvature before) + A·(curvature) + R·(next curvature) = k.
 #[derive(Drop)]
@@ -23,7 +23,7 @@ pub struct Line {
 pub fn hundredths(number: i32) -> f64
     ensures { result ≡ hundredths number }
 {
-    (number as f64) / 4096.0
+    f64::from(number) / 4096.0
 }
 
 // The equation of a knot between two gaps, by the slope of the knot before, its own and that of the next.
@@ -51,30 +51,24 @@ fn reduce(own: f64, l: f64, before: f64, first: bool) -> f64
 fn state_of(h: f64, p: f64) -> State
     ensures { result ≡ single h p }
 {
-    let h = Block {
-        e11: 0.0,
-        e12: 0.0,
-        e21: 0.0,
-        e22: h,
-    };
-    let p = Pair { s: 0.0, c: p };
-    State { h, p }
-}
-
-// S is tested as the determinant that P and H were divided by; H is not solved for at the last knot.
-fn settle(s: f64, t: f64, r: f64, last: bool) -> Step
-    ensures { result ≡ line_solved s t r last }
-{
-    let p = t / s;
-    if last {
-        elimination::judge(s, state_of(0.0, p))
-    } else {
-        elimination::judge(s, state_of(r / s, p))
+    State {
+        h: Block { e22: h, ..ZEROS },
+        p: Pair { s: 0.0, c: p },
     }
 }
 
+// S is tested as the determinant that P and H were divided by; H is not solved for at the last knot.
+#[tactic(auto, unfolding(crate::specs::Lines::line_solved))]
+fn settle(s: f64, t: f64, r: f64, last: bool) -> Option<State>
+    ensures { result ≡ line_solved s t r last }
+{
+    let h = if last { 0.0 } else { r / s };
+    elimination::judge(s, state_of(h, t / s))
+}
+
 // One knot, given what elimination left of the one before.
-pub fn eliminate(line: Line, before: State, first: bool, last: bool) -> Step
+#[tactic(auto, unfolding(crate::specs::Lines::line_eliminated))]
+pub fn eliminate(line: Line, before: State, first: bool, last: bool) -> Option<State>
     ensures { result ≡ line_eliminated line before first last }
 {
     let s = reduce(line.a, line.l, before.h.e22, first);

@@ -1,9 +1,9 @@
 -- How long a line is at most, by the widths of its numbers; and what a listing is, by its number of refusal.
 -- Assumes nothing.
-use Prim.Native.Nat.{ℕ, ◌+◌, ◌^◌, ◌≤◌, ◌<◌}
+use Prim.Native.Nat.{ℕ, ◌^◌, ◌≤◌, ◌<◌}
 use mathlib.Core.Path.{◌≡◌}
 use mathlib.Core.List.{List, [], ◌∷◌, ◌++◌}
-use native.Mathlib.Decide.{ℕ_discrete}
+use Rattle.std.specs.Prelude.{Option, Some, None}
 use native.Mathlib.Omega.{arith}
 use lib.IntN.{ℤ, pos, negsuc, nat_abs}
 use lib.ListN.{length, length-append}
@@ -12,7 +12,7 @@ use mir.Syntax.{w32}
 use mir.Val.{SFits}
 use Rattle.decimal.specs.Decimal.{spelled, decimal, field, worded}
 use Rattle.decimal.proofs.Lengths.{length_decimal, length_field}
-use Rattle.listing.specs.Text.{space, line_feed, four_fields, knot_line, counted_line, no_log, listed_line, ok_line, refused_line, lines, line_of, listing, longest_line}
+use Rattle.listing.specs.Text.{space, line_feed, four_fields, knot_line, counted_line, listed_line, ok_line, refused_line, lines, line_of, listing, longest_line}
 
 -- a number of 32 bits has at most ten digits
 ten_digits : (n : ℕ) → n < 2 ^ 32 → length (decimal n) ≤ 10
@@ -51,22 +51,16 @@ unfolding counted_line
 length_counted_line x y m M count a b c d e =
     omega (arith, length-append (four_fields x y m M space) (field (pos count) line_feed), length_four_fields x y m M space a b c d, twelve (pos count) line_feed (omega arith))
 
--- what a line of a listing is, by its faults
-module _ (x : ℕ) (y m M : ℤ) (faults : ℕ) where
-  pub of_a_knot : faults ≡ no_log → listed_line x y m M faults ≡ knot_line x y m M
-  unfolding listed_line
-  of_a_knot h = rw (eq-eqb faults no_log h)
+-- a count of faults is of 32 bits
+abbrev pub FitsWhere : Option ℕ → Type 0
+FitsWhere None = Unit {0}
+FitsWhere (Some n) = n < 2 ^ 32
 
-  pub of_a_log : (faults ≡ no_log → ⊥) → listed_line x y m M faults ≡ counted_line x y m M faults
-  unfolding listed_line
-  of_a_log h = rw (ne_eqb faults no_log h)
-
-  pub length_listed_line : x < 2 ^ 32 → SFits w32 y → SFits w32 m → SFits w32 M → faults < 2 ^ 32 → length (listed_line x y m M faults) ≤ longest_line
-  length_listed_line a b c d e =
-      elim (ℕ_discrete faults no_log) [
-        | yes h ↦ rw (of_a_knot h) (omega (arith, length_knot_line x y m M a b c d))
-        | no h ↦ rw (of_a_log h) (length_counted_line x y m M faults a b c d e)
-      ]
+pub length_listed_line : (x : ℕ) (y m M : ℤ) (faults : Option ℕ) → x < 2 ^ 32 → SFits w32 y → SFits w32 m → SFits w32 M → FitsWhere faults
+    → length (listed_line x y m M faults) ≤ longest_line
+unfolding listed_line
+length_listed_line x y m M None a b c d f = omega (arith, length_knot_line x y m M a b c d)
+length_listed_line x y m M (Some n) a b c d f = length_counted_line x y m M n a b c d f
 
 pub length_ok_line : (n : ℕ) → n < 2 ^ 32 → length (ok_line n) ≤ 14
 unfolding ok_line spelled
@@ -83,7 +77,7 @@ length_refused_line number place h k =
       ten_digits place k,
     )
 
-module _ (number place : ℕ) (xs : List ℕ) (ys ms Ms : List ℤ) (fs : List ℕ) where
+module _ (number place : ℕ) (xs : List ℕ) (ys ms Ms : List ℤ) (fs : List (Option ℕ)) where
   pub refused_listing : (number ≡ 0 → ⊥) → listing number place xs ys ms Ms fs ≡ refused_line number place
   unfolding listing
   refused_listing h = rw (ne_eqb number 0 h)

@@ -1,6 +1,6 @@
 -- What both programs print, as bytes: document 01, "Two programs", and document 02, order 4. "Both print a line per knot, then `ok n`; or one line `refused NUMBER at PLACE`."
 -- Assumes nothing.
-use Rattle.std.specs.Prelude.{ℕ, zero, suc, ◌*◌, ◌≤◌, cond, List, [], ◌∷◌, ◌++◌, eqb, ℤ, pos, length, get_or}
+use Rattle.std.specs.Prelude.{ℕ, zero, suc, ◌*◌, ◌≤◌, cond, List, [], ◌∷◌, ◌++◌, eqb, ℤ, pos, length, get_or, Option, Some, None}
 use Rattle.decimal.specs.Decimal.{field, worded}
 use Rattle.decimal.specs.Put.{Put}
 
@@ -22,13 +22,14 @@ knot_line x y m M = four_fields x y m M line_feed
 unfoldable pub counted_line : ℕ → ℤ → ℤ → ℤ → ℕ → List ℕ
 counted_line x y m M count = four_fields x y m M space ++ field (pos count) line_feed
 
--- in the place of a knot's faults, where it is no log's; a log has at most 60
-abbrev pub no_log : ℕ
-no_log = 255
+-- in the place of a knot's faults, where it is no log's
+abbrev pub no_log : Option ℕ
+no_log = None
 
 -- of a log "its line has the faults printed behind the curvature", and no other knot's
-unfoldable pub listed_line : ℕ → ℤ → ℤ → ℤ → ℕ → List ℕ
-listed_line x y m M faults = cond (eqb faults no_log) (knot_line x y m M) (counted_line x y m M faults)
+unfoldable pub listed_line : ℕ → ℤ → ℤ → ℤ → Option ℕ → List ℕ
+listed_line x y m M None = knot_line x y m M
+listed_line x y m M (Some faults) = counted_line x y m M faults
 
 unfoldable pub ok_line : ℕ → List ℕ
 ok_line n = worded "ok " n ++ (line_feed ∷ [])
@@ -42,11 +43,11 @@ lines line zero = []
 lines line (suc n) = lines line n ++ line n
 
 -- a knot behind the end of the list of faults is no log's
-unfoldable pub line_of : List ℕ → List ℤ → List ℤ → List ℤ → List ℕ → ℕ → List ℕ
+unfoldable pub line_of : List ℕ → List ℤ → List ℤ → List ℤ → List (Option ℕ) → ℕ → List ℕ
 line_of xs ys ms Ms fs i = listed_line (get_or xs i 0) (get_or ys i (pos 0)) (get_or ms i (pos 0)) (get_or Ms i (pos 0)) (get_or fs i no_log)
 
 -- number and place of a refusal, 0 and 0 where there is none; then the lists of minutes, ordinates, slopes, curvatures and faults
-unfoldable pub listing : ℕ → ℕ → List ℕ → List ℤ → List ℤ → List ℤ → List ℕ → List ℕ
+unfoldable pub listing : ℕ → ℕ → List ℕ → List ℤ → List ℤ → List ℤ → List (Option ℕ) → List ℕ
 listing number place xs ys ms Ms fs =
     cond (eqb number 0) (lines (line_of xs ys ms Ms fs) (length xs) ++ ok_line (length xs)) (refused_line number place)
 

@@ -33,27 +33,30 @@ pub fn counted_line(text: &mut [u8], at: usize, x: u16, y: i32, m: i32, c: i32, 
     decimal::put_field(text, next, count as i64, b'\n')
 }
 
-// In the place of a knot's faults, where it is no log's.
-pub const NO_LOG: u8 = 255;
-
-// A log's line has its faults behind the curvature.
-fn listed_line(text: &mut [u8], at: usize, x: u16, y: i32, m: i32, c: i32, faults: u8) -> usize
+// A log's line has its faults behind the curvature, and no other knot's has any.
+#[tactic(auto, unfolding(crate::specs::Text::listed_line))]
+fn listed_line(
+    text: &mut [u8],
+    at: usize,
+    x: u16,
+    y: i32,
+    m: i32,
+    c: i32,
+    faults: Option<u8>,
+) -> usize
     requires { at + length (listed_line x y m c faults) ≤ length text.old }
     ensures { Put (listed_line x y m c faults) text.old text.new at result }
 {
-    if faults == NO_LOG {
-        return knot_line(text, at, x, y, m, c);
+    match faults {
+        None => knot_line(text, at, x, y, m, c),
+        Some(count) => counted_line(text, at, x, y, m, c, count as u32),
     }
-    counted_line(text, at, x, y, m, c, faults as u32)
 }
 
-fn faults_at(faults: &[u8], i: usize) -> u8
+fn faults_at(faults: &[Option<u8>], i: usize) -> Option<u8>
     ensures { result ≡ get_or faults.now i no_log }
 {
-    if i < faults.len() {
-        return faults[i];
-    }
-    NO_LOG
+    faults.get(i).copied().flatten()
 }
 
 fn knot_lines(
@@ -62,15 +65,14 @@ fn knot_lines(
     ordinates: &[i16],
     slopes: &[i32],
     curvatures: &[i32],
-    faults: &[u8],
+    faults: &[Option<u8>],
 ) -> usize
     requires ordinates_len { (length ordinates.now ≡ length minutes.now) × (length slopes.now ≡ length minutes.now) × (length curvatures.now ≡ length minutes.now) }
     requires minutes_in_bounds { longest_line * length minutes.now ≤ length text.old }
     ensures { Lines (line_of minutes.now ordinates.now slopes.now curvatures.now faults.now) (length minutes.now) text.old text.new result }
 {
     let mut next: usize = 0;
-    let mut i: usize = 0;
-    while i < minutes.len() {
+    for i in 0..minutes.len() {
         next = listed_line(
             text,
             next,
@@ -80,7 +82,6 @@ fn knot_lines(
             curvatures[i],
             faults_at(faults, i),
         );
-        i += 1;
     }
     next
 }
@@ -112,7 +113,7 @@ pub fn list(
     ordinates: &[i16],
     slopes: &[i32],
     curvatures: &[i32],
-    faults: &[u8],
+    faults: &[Option<u8>],
     text: &mut [u8],
 ) -> usize
     requires ordinates_len { (length ordinates.now ≡ length minutes.now) × (length slopes.now ≡ length minutes.now) × (length curvatures.now ≡ length minutes.now) }

@@ -63,7 +63,7 @@ module _ (K : Kind) (reads : T (readable K)) {xs : List ℕ} {ys ms cs : List �
     same : right_gap xs i ≡ h
     same = right_gap_is xs i p.inside
 
-    narrow : h ≤ K.widest_gap
+    pub narrow : h ≤ K.widest_gap
     narrow = subst (λ g. g ≤ K.widest_gap) same (right_narrow s i here)
 
     pub minute_in_gap : InGap (pos h) (pos (minute - get_or xs i 0))

@@ -2,7 +2,7 @@
 -- finds at a knot is what document 01 asks there.
 -- Assumes nothing.
 use mathlib.Core.Path.{◌≡◌, refl, sym, ◌∙◌, ap, ap₂, subst}
-use mathlib.Core.Logic.{◌⊎◌, ⊎_elim}
+use mathlib.Core.Logic.{⊎_elim}
 use mathlib.Core.Bool.{Bool, true, false, ◌&&◌, cond}
 use mathlib.Core.List.{List}
 use Prim.Native.Nat.{ℕ, suc, ◌+◌, ◌-◌, ◌≤◌, ◌<◌, ◌^◌, min}
@@ -44,7 +44,10 @@ use Rattle.jumps.proofs.JumpIs.{jump_is, allowed_is, jumps_is}
 use Rattle.jumps.proofs.OfKinds.{quintic_testable}
 use Rattle.lists.specs.declared.Spell.{Spell}
 use Rattle.lists.specs.Lists.{Checked, InPlace, spelt, numbers_at, code_of, square_of, tests, jumps_of}
-use Rattle.lists.proofs.OfKinds.{knot_tried, minute_in_gap, gap_tame, level_right, level_left}
+use mir.Syntax.{w64}
+use mir.Val.{to_z}
+use mir.Facts.{to_z_pos}
+use Rattle.lists.proofs.OfKinds.{narrow, knot_tried, minute_in_gap, gap_tame, level_right, level_left}
 
 module _ {xs : List ℕ} {ys ms cs : List ℤ} (k : Checked xs ys ms cs) where
   stands_there : Stood quintic xs ys
@@ -69,6 +72,11 @@ module _ {xs : List ℕ} {ys ms cs : List ℤ} (k : Checked xs ys ms cs) where
   module _ (i minute : ℕ) (p : InPlace xs i minute) where
     abbrev h : ℕ
     h = get_or xs (i + 1) 0 - get_or xs i 0
+
+    -- as the code has it
+    pub gap_signed : to_z w64 h ≡ pos h
+    unfolding quintic
+    gap_signed = to_z_pos w64 (omega (arith, narrow quintic quintic_readable stands_there in_range_there i minute p))
 
     pub settled_minute : InGap (pos h) (pos (minute - get_or xs i 0))
     settled_minute = minute_in_gap quintic quintic_readable stands_there in_range_there i minute p

@@ -9,16 +9,16 @@ ghost use Rattle.curve.specs.Steps.{outside};
 ghost use Rattle.minutes.specs.Gaps.{left_gap, right_gap, wider_gap};
 ghost use Rattle.minutes.specs.Search.{look, found};
 
+use answer::{Judged, Reason};
+
 // ---- a knot and its neighbours
 
 // The place before; at the first knot its own.
+#[tactic(auto, unfolding(curve::specs::Card::back))]
 pub fn back(i: usize) -> usize
     ensures { result ≡ back i }
 {
-    if i == 0 {
-        return 0;
-    }
-    i - 1
+    i.saturating_sub(1)
 }
 
 // The place after, of n; at the last knot its own.
@@ -26,23 +26,18 @@ pub fn on(n: usize, i: usize) -> usize
     requires { i < n }
     ensures { result ≡ min (i + 1) (n - 1) }
 {
-    if i == n - 1 {
-        return i;
-    }
-    i + 1
+    (i + 1).min(n - 1)
 }
 
 // From one minute to another; 0 where it is not after.
 fn gap(from: u16, to: u16) -> u16
     ensures { result ≡ to - from }
 {
-    if to < from {
-        return 0;
-    }
-    to - from
+    to.saturating_sub(from)
 }
 
 // The gap on the left of a knot; 0 at the first.
+#[tactic(auto, unfolding(curve::specs::Card::back))]
 pub fn left_gap(xs: &[u16], i: usize) -> u16
     requires { i < length xs.now }
     ensures { result ≡ left_gap xs.now i }
@@ -61,30 +56,24 @@ pub fn right_gap(xs: &[u16], i: usize) -> u16
 }
 
 // The wider of the gaps beside a knot.
+#[tactic(auto, unfolding(crate::specs::Gaps::wider_gap))]
 pub fn wider_gap(xs: &[u16], i: usize) -> u16
     requires { i < length xs.now }
     ensures { result ≡ wider_gap xs.now i }
 {
-    let left = left_gap(xs, i);
-    let right = right_gap(xs, i);
-    if left < right {
-        return right;
-    }
-    left
+    left_gap(xs, i).max(right_gap(xs, i))
 }
 
 // ---- a minute
 
 // 11.
-pub fn outside(xs: &[u16], minute: u16) -> answer::Judged
+#[tactic(auto, unfolding(curve::specs::Steps::outside))]
+pub fn outside(xs: &[u16], minute: u16) -> Judged
     requires { 0 < length xs.now }
     ensures { verdict_of result ≡ outside xs.now minute }
 {
-    if minute < xs[0] {
-        return answer::Judged::Refused(11, 0);
-    }
-    let last = xs.len() - 1;
-    answer::refuse(11, 0, xs[last] < minute)
+    let last = xs[xs.len() - 1];
+    answer::refuse(Reason::Outside, 0, minute < xs[0] || last < minute)
 }
 
 // ---- the gap of a minute, by halving: document 02, order 7

@@ -16,9 +16,9 @@ module _ (pairs : List Pair) where
   abbrev pub curvature_at : ℕ → ℤ
   curvature_at k = units_of (get_or pairs k no_pair).c
 
-  -- as the passes leave them
-  abbrev pub AllFinite : Type 0
-  AllFinite = (k : ℕ) → k < most → both_finite (get_or pairs k no_pair) ≡ true
+  -- the first n, as the passes leave them
+  abbrev pub AllFinite : ℕ → Type 0
+  AllFinite n = (k : ℕ) → k < n → both_finite (get_or pairs k no_pair) ≡ true
 
   -- of the first n, zeros behind them
   abbrev pub scaled : ℕ → Numbers

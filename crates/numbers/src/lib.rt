@@ -9,41 +9,32 @@ ghost use Rattle.numbers.specs.Numbers.{AllFinite, scaled};
 use passes::MOST;
 use rows::Pair;
 
+// Two lists, since two are lent, of which a fit may write one alone.
 #[derive(Clone, Copy)]
 pub struct Numbers {
     pub slopes: [i32; MOST],
     pub curvatures: [i32; MOST],
 }
 
-// Of the first n pairs, zeros behind them.
-pub fn scale(pairs: [Pair; MOST], n: usize) -> Numbers
-    requires n_le_most { n ≤ most }
-    requires all_finite { AllFinite pairs }
-    ensures { result ≡ scaled pairs n }
+// Of each pair, zeros behind them.
+pub fn scale(pairs: &[Pair]) -> Numbers
+    requires n_le_most { length pairs.now ≤ most }
+    requires all_finite { AllFinite pairs.now (length pairs.now) }
+    ensures { result ≡ scaled pairs.now (length pairs.now) }
 {
-    let mut slopes = [0i32; MOST];
-    let mut curvatures = [0i32; MOST];
-    let mut k = 0;
-    while k < n {
-        let pair = pairs[k];
-        let slope = units::units_of(pair.s);
-        let curvature = units::units_of(pair.c);
-        slopes[k] = slope;
-        curvatures[k] = curvature;
-        k += 1;
+    let mut slopes = [0; MOST];
+    let mut curvatures = [0; MOST];
+    for (k, pair) in pairs.iter().enumerate() {
+        slopes[k] = units::units_of(pair.s);
+        curvatures[k] = units::units_of(pair.c);
     }
     Numbers { slopes, curvatures }
 }
 
 // As many as the lent list has places.
-pub fn write(out: &mut [i32], values: [i32; MOST])
-    requires { length out.old ≤ most }
-    ensures { out.new ≡ take (length out.old) values }
+pub fn write(out: &mut [i32], values: &[i32])
+    requires { length out.old ≤ length values.now }
+    ensures { out.new ≡ take (length out.old) values.now }
 {
-    let mut i = 0;
-    while i < out.len() {
-        let value = values[i];
-        out[i] = value;
-        i += 1;
-    }
+    out.copy_from_slice(&values[..out.len()]);
 }

@@ -13,9 +13,9 @@ use mir.Syntax.{w32}
 use mir.Val.{to_z}
 use mir.Facts.{to_z-of_z, to_z_pos}
 use Rattle.decimal.specs.Decimal.{value}
-use Rattle.numeral.specs.Number.{starts, all_digits, padded, not_whole, leading_zero, too_large, at_most, natural, above, below}
-use Rattle.numeral.specs.declared.Number.TheVariants.{Whole, Bad}
-use Rattle.numeral.specs.declared.Signed.TheVariants.{Told, Untold}
+use Rattle.numeral.specs.Number.{starts, all_digits, padded, at_most, natural, above, below}
+use Rattle.numeral.specs.declared.Wrong.{Wrong}
+use Rattle.std.specs.Prelude.{Ok, Err}
 
 -- ---- the first byte
 
@@ -37,24 +37,16 @@ starts_some b (x ∷ w) e = omega arith
 -- ---- natural numbers
 
 module _ (most : ℕ) (w : List ℕ) where
-  pub is_not_whole : all_digits w ≡ false → Bad not_whole ≡ natural most w
-  unfolding natural
-  is_not_whole e = rw e
-
   module _ (d : all_digits w ≡ true) where
-    pub is_padded : padded w ≡ true → Bad leading_zero ≡ natural most w
-    unfolding natural
-    is_padded e = rw (d, e)
-
     pub is_value : padded w ≡ false → at_most most (value w) ≡ natural most w
     unfolding natural
     is_value e = rw (d, e)
 
-  pub natural_upto : {n : ℕ} → natural most w ≡ Whole n → n ≤ most
+  pub natural_upto : {n : ℕ} → natural most w ≡ Ok n → n ≤ most
   unfolding natural at_most
   natural_upto {n} e = go (all_digits w) (padded w) (ltb most (value w)) refl e
     where
-      go : (a p l : Bool) → ltb most (value w) ≡ l → cond a (cond p (Bad leading_zero) (cond l (Bad too_large) (Whole (value w)))) (Bad not_whole) ≡ Whole n → n ≤ most
+      go : (a p l : Bool) → ltb most (value w) ≡ l → cond a (cond p (Err Wrong.LeadingZero) (cond l (Err Wrong.TooLarge) (Ok (value w)))) (Err Wrong.NotWhole) ≡ Ok n → n ≤ most
       go false p l t e = let z : ◌≡◌ {A = ℕ} 0 1 = cc in absurd (omega arith)
       go true true l t e = let z : ◌≡◌ {A = ℕ} 0 1 = cc in absurd (omega arith)
       go true false true t e = let z : ◌≡◌ {A = ℕ} 0 1 = cc in absurd (omega arith)
@@ -63,22 +55,18 @@ module _ (most : ℕ) (w : List ℕ) where
 -- ---- with a sign
 
 module _ (w : List ℕ) {n : ℕ} where
-  pub is_above : natural 2147483647 w ≡ Whole n → Told (to_z w32 n) ≡ above (natural 2147483647 w)
+  pub is_above : natural 2147483647 w ≡ Ok n → Ok (to_z w32 n) ≡ above (natural 2147483647 w)
   unfolding above
   is_above e = let h = natural_upto 2147483647 w e in rw (e, to_z_pos w32 {n = n} (omega arith))
 
-  module _ (e : natural 2147483648 w ≡ Whole n) where
-    pub is_zero : n ≡ 0 → Untold leading_zero ≡ below (natural 2147483648 w)
-    unfolding below
-    is_zero z = rw (e, z)
-
-    pub is_below : (n ≡ 0 → ⊥) → Told (to_z w32 (4294967295 - (n - 1))) ≡ below (natural 2147483648 w)
+  module _ (e : natural 2147483648 w ≡ Ok n) where
+    pub is_below : (n ≡ 0 → ⊥) → Ok (to_z w32 (4294967295 - (n - 1))) ≡ below (natural 2147483648 w)
     unfolding below
     is_below z = rw e (go n z (natural_upto 2147483648 w e))
       where
-        go : (n : ℕ) → (n ≡ 0 → ⊥) → n ≤ 2147483648 → Told (to_z w32 (4294967295 - (n - 1))) ≡ below (Whole n)
+        go : (n : ℕ) → (n ≡ 0 → ⊥) → n ≤ 2147483648 → Ok (to_z w32 (4294967295 - (n - 1))) ≡ below (Ok n)
         go zero z h = absurd (z refl)
         go (suc k) z h =
             let m : 4294967295 - (suc k - 1) ≡ 4294967296 - suc k = omega arith in
             let f : k < 2 ^ 31 = omega arith in
-            rw m (ap Told (to_z-of_z {w = w32} {z = negsuc k} (record { sfits = f })))
+            rw m (ap Ok (to_z-of_z {w = w32} {z = negsuc k} (record { sfits = f })))

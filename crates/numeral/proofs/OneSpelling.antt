@@ -3,7 +3,7 @@
 use Prim.Native.Nat.{ℕ, zero, suc, ◌+◌, ◌-◌, ◌*◌, ◌/◌, ◌%◌, ◌^◌, ◌≤◌, ◌<◌}
 use mathlib.Core.Path.{◌≡◌, refl, sym, ap, ◌∙◌}
 use mathlib.Core.Bool.{Bool, true, false, cond, ◌&&◌, ◌||◌, true≢false}
-use mathlib.Core.List.{List, [], ◌∷◌, ◌++◌}
+use mathlib.Core.List.{List, [], ◌∷◌}
 use native.Mathlib.Nat.{pow-suc}
 use native.Mathlib.Omega.{arith}
 use native.Mathlib.Decide.{dec_lt}
@@ -17,12 +17,9 @@ use Rattle.decimal.specs.Decimal.{digits, places, decimal, value_from, value, mi
 use Rattle.split.specs.Parts.{marks, stop}
 use Rattle.split.specs.declared.Mark.TheVariants.{NoDigit}
 use Rattle.split.proofs.Stops.{before_stop}
-use Rattle.numeral.specs.Number.{starts, all_digits, padded, too_large, not_whole, leading_zero, at_most, natural, above, below, signed_number, narrowed, lone_minus, ordinate}
-use Rattle.numeral.specs.declared.Number.{Number}
-use Rattle.numeral.specs.declared.Number.TheVariants.{Whole, Bad}
-use Rattle.numeral.specs.declared.Signed.{Signed}
-use Rattle.numeral.specs.declared.Signed.TheVariants.{Told, Untold}
-use Rattle.numeral.specs.declared.Ordinate.TheVariants.{Given, Hole, Wrong}
+use Rattle.numeral.specs.Number.{starts, all_digits, padded, at_most, natural, above, below, signed_number, narrowed, lone_minus, ordinate}
+use Rattle.numeral.specs.declared.Wrong.{Wrong}
+use Rattle.std.specs.Prelude.{Result, Ok, Err, Some, None}
 use Rattle.numeral.proofs.Values.{second, digits_from, grows}
 use Rattle.decimal.proofs.Digits.{value_append}
 
@@ -125,12 +122,12 @@ spelt w d p =
       no_zero = λ h. starts_no_zero w (rw (lt-ltb 1 (length w) h) at p) l (digits_from w d 0 l);
     }
 
-pub one_spelling : (most : ℕ) (w : List ℕ) {n : ℕ} → most < 10 ^ places → natural most w ≡ Whole n → w ≡ decimal n
+pub one_spelling : (most : ℕ) (w : List ℕ) {n : ℕ} → most < 10 ^ places → natural most w ≡ Ok n → w ≡ decimal n
 unfolding natural at_most
 one_spelling most w {n} few e = go (all_digits w) refl (padded w) refl (ltb most (value w)) refl e
   where
     go : (a : Bool) → all_digits w ≡ a → (p : Bool) → padded w ≡ p → (l : Bool) → ltb most (value w) ≡ l
-        → cond a (cond p (Bad leading_zero) (cond l (Bad too_large) (Whole (value w)))) (Bad not_whole) ≡ Whole n → w ≡ decimal n
+        → cond a (cond p (Err Wrong.LeadingZero) (cond l (Err Wrong.TooLarge) (Ok (value w)))) (Err Wrong.NotWhole) ≡ Ok n → w ≡ decimal n
     go false d p z l t e = let z : ◌≡◌ {A = ℕ} 0 1 = cc in absurd (omega arith)
     go true d true z l t e = let z : ◌≡◌ {A = ℕ} 0 1 = cc in absurd (omega arith)
     go true d false z true t e = let z : ◌≡◌ {A = ℕ} 0 1 = cc in absurd (omega arith)
@@ -146,50 +143,50 @@ unfolding starts
 behind_minus [] e = absurd (true≢false (sym e))
 behind_minus (b ∷ w) e = ap (λ b. b ∷ w) (eqb-true b minus e)
 
-spelled_above : (w : List ℕ) (a : Number) → natural 2147483647 w ≡ a → {z : ℤ} → above a ≡ Told z → w ≡ signed z
+spelled_above : (w : List ℕ) (a : Result ℕ Wrong) → natural 2147483647 w ≡ a → {z : ℤ} → above a ≡ Ok z → w ≡ signed z
 unfolding above signed
-spelled_above w (Bad wrong) e g = let z : ◌≡◌ {A = ℕ} 0 1 = cc in absurd (omega arith)
-spelled_above w (Whole n) e {z} g = let i : pos n ≡ z = cc in rw (← i) (one_spelling 2147483647 w (lit< tt) e)
+spelled_above w (Err wrong) e g = let z : ◌≡◌ {A = ℕ} 0 1 = cc in absurd (omega arith)
+spelled_above w (Ok n) e {z} g = let i : pos n ≡ z = cc in rw (← i) (one_spelling 2147483647 w (lit< tt) e)
 
-spelled_below : (w : List ℕ) (a : Number) → natural 2147483648 w ≡ a → {z : ℤ} → below a ≡ Told z → (minus ∷ w) ≡ signed z
+spelled_below : (w : List ℕ) (a : Result ℕ Wrong) → natural 2147483648 w ≡ a → {z : ℤ} → below a ≡ Ok z → (minus ∷ w) ≡ signed z
 unfolding below signed
-spelled_below w (Bad wrong) e g = let z : ◌≡◌ {A = ℕ} 0 1 = cc in absurd (omega arith)
-spelled_below w (Whole zero) e g = let z : ◌≡◌ {A = ℕ} 0 1 = cc in absurd (omega arith)
-spelled_below w (Whole (suc n)) e {z} g = let i : negsuc n ≡ z = cc in rw (← i) (ap (λ ds. minus ∷ ds) (one_spelling 2147483648 w (lit< tt) e))
+spelled_below w (Err wrong) e g = let z : ◌≡◌ {A = ℕ} 0 1 = cc in absurd (omega arith)
+spelled_below w (Ok zero) e g = let z : ◌≡◌ {A = ℕ} 0 1 = cc in absurd (omega arith)
+spelled_below w (Ok (suc n)) e {z} g = let i : negsuc n ≡ z = cc in rw (← i) (ap (λ ds. minus ∷ ds) (one_spelling 2147483648 w (lit< tt) e))
 
-pub one_signed : (w : List ℕ) {z : ℤ} → signed_number w ≡ Told z → w ≡ signed z
+pub one_signed : (w : List ℕ) {z : ℤ} → signed_number w ≡ Ok z → w ≡ signed z
 unfolding signed_number
 one_signed w {z} e = go (starts minus w) refl e
   where
-    go : (b : Bool) → starts minus w ≡ b → cond b (below (natural 2147483648 (drop 1 w))) (above (natural 2147483647 w)) ≡ Told z → w ≡ signed z
+    go : (b : Bool) → starts minus w ≡ b → cond b (below (natural 2147483648 (drop 1 w))) (above (natural 2147483647 w)) ≡ Ok z → w ≡ signed z
     go true t e = behind_minus w t ∙ spelled_below (drop 1 w) (natural 2147483648 (drop 1 w)) refl e
     go false t e = spelled_above w (natural 2147483647 w) refl e
 
 -- an ordinate is the number that it was narrowed from, and no number is a hole
-narrowed_told : (a : Signed) {z : ℤ} → narrowed a ≡ Given z → a ≡ Told z
+narrowed_told : (a : Result ℤ Wrong) {z : ℤ} → narrowed a ≡ Ok (Some z) → a ≡ Ok z
 unfolding narrowed
-narrowed_told (Untold wrong) e = let z : ◌≡◌ {A = ℕ} 0 1 = cc in absurd (omega arith)
-narrowed_told (Told y) {z} e = go (lt_z y (negsuc 32767) || lt_z (pos 32767) y) e
+narrowed_told (Err wrong) e = let z : ◌≡◌ {A = ℕ} 0 1 = cc in absurd (omega arith)
+narrowed_told (Ok y) {z} e = go (lt_z y (negsuc 32767) || lt_z (pos 32767) y) e
   where
-    go : (b : Bool) → cond b (Wrong too_large) (Given y) ≡ Given z → Told y ≡ Told z
+    go : (b : Bool) → cond b (Err Wrong.TooLarge) (Ok (Some y)) ≡ Ok (Some z) → ◌≡◌ {A = Result ℤ Wrong} (Ok y) (Ok z)
     go true e = let z : ◌≡◌ {A = ℕ} 0 1 = cc in absurd (omega arith)
     go false e = cc
 
-narrowed_no_hole : (a : Signed) → (narrowed a ≡ Hole) → ⊥
+narrowed_no_hole : (a : Result ℤ Wrong) → (narrowed a ≡ Ok None) → ⊥
 unfolding narrowed
-narrowed_no_hole (Untold wrong) e = let z : ◌≡◌ {A = ℕ} 0 1 = cc in absurd (omega arith)
-narrowed_no_hole (Told y) e = go (lt_z y (negsuc 32767) || lt_z (pos 32767) y) e
+narrowed_no_hole (Err wrong) e = let z : ◌≡◌ {A = ℕ} 0 1 = cc in absurd (omega arith)
+narrowed_no_hole (Ok y) e = go (lt_z y (negsuc 32767) || lt_z (pos 32767) y) e
   where
-    go : (b : Bool) → (cond b (Wrong too_large) (Given y) ≡ Hole) → ⊥
+    go : (b : Bool) → (cond b (Err Wrong.TooLarge) (Ok (Some y)) ≡ Ok None) → ⊥
     go true e = let z : ◌≡◌ {A = ℕ} 0 1 = cc in absurd (omega arith)
     go false e = let z : ◌≡◌ {A = ℕ} 0 1 = cc in absurd (omega arith)
 
 module _ (w : List ℕ) where
-  pub one_ordinate : {z : ℤ} → ordinate w ≡ Given z → w ≡ signed z
+  pub one_ordinate : {z : ℤ} → ordinate w ≡ Ok (Some z) → w ≡ signed z
   unfolding ordinate
   one_ordinate {z} e = go (lone_minus w) e
     where
-      go : (lone : Bool) → cond lone Hole (narrowed (signed_number w)) ≡ Given z → w ≡ signed z
+      go : (lone : Bool) → cond lone (Ok None) (narrowed (signed_number w)) ≡ Ok (Some z) → w ≡ signed z
       go true e = let z : ◌≡◌ {A = ℕ} 0 1 = cc in absurd (omega arith)
       go false e = one_signed w (narrowed_told (signed_number w) e)
 
@@ -198,10 +195,10 @@ module _ (w : List ℕ) where
       let l : length w ≡ 1 = eqb-true (length w) 1 (first_and (eqb (length w) 1) _ e) in
       behind_minus w (second (eqb (length w) 1) _ e) ∙ ap (λ v. minus ∷ v) (rw l at (drop-length w))
 
-  pub one_hole : ordinate w ≡ Hole → w ≡ minus ∷ []
+  pub one_hole : ordinate w ≡ Ok None → w ≡ minus ∷ []
   unfolding ordinate
   one_hole e = go (lone_minus w) refl e
     where
-      go : (lone : Bool) → lone_minus w ≡ lone → cond lone Hole (narrowed (signed_number w)) ≡ Hole → w ≡ minus ∷ []
+      go : (lone : Bool) → lone_minus w ≡ lone → cond lone (Ok None) (narrowed (signed_number w)) ≡ Ok None → w ≡ minus ∷ []
       go true l e = is_lone l
       go false l e = absurd (narrowed_no_hole (signed_number w) e)

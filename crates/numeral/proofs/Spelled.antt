@@ -17,12 +17,10 @@ use mir.Val.{SFits}
 use Rattle.decimal.proofs.Digits.{decimal_one, value_digits}
 use Rattle.split.specs.Parts.{marks, stop}
 use Rattle.numeral.specs.Number.{starts, all_digits, padded, at_most, natural, above, below, signed_number, narrowed, lone_minus, ordinate}
+use Rattle.std.specs.Prelude.{Ok, Some}
 use Rattle.split.specs.declared.Mark.{Mark}
 use Rattle.split.specs.declared.Mark.TheVariants.{NoDigit}
 use Rattle.split.proofs.Unmarked.{unmarked_more}
-use Rattle.numeral.specs.declared.Number.TheVariants.{Whole}
-use Rattle.numeral.specs.declared.Signed.TheVariants.{Told}
-use Rattle.numeral.specs.declared.Ordinate.TheVariants.{Given}
 use Rattle.numeral.proofs.Numbers.{is_value}
 
 -- ---- no byte is marked
@@ -85,7 +83,7 @@ module _ (n : ℕ) (h : n < 10 ^ places) where
       go true t = rw (decimal_one n (ltb-true n 10 t))
       go false t = let l = ltb-false n 10 t in rw (first_digit 48 places n h (omega arith) (omega arith)) (and-false (ltb 1 (length (decimal n))))
 
-  pub decimal_read : (most : ℕ) → n ≤ most → natural most (decimal n) ≡ Whole n
+  pub decimal_read : (most : ℕ) → n ≤ most → natural most (decimal n) ≡ Ok n
   unfolding at_most
   decimal_read most l = sym (is_value most (decimal n) all_of_them not_padded) ∙ rw (value_digits places n h, le-ltb most n l)
 
@@ -97,7 +95,7 @@ not_lone (pos n) f =
     rw (first_digit minus places n (omega arith) (omega arith) (omega arith)) (and-false (eqb (length (decimal n)) 1))
 not_lone (negsuc n) f = rw (ne_eqb (suc (length (decimal (suc n)))) 1 (λ e. omega (arith, some_digit 19 (suc n))))
 
-pub signed_read : (z : ℤ) → SFits w32 z → signed_number (signed z) ≡ Told z
+pub signed_read : (z : ℤ) → SFits w32 z → signed_number (signed z) ≡ Ok z
 unfolding signed signed_number above below starts
 signed_read (pos n) f =
     let l : n < 2147483648 = f.sfits in
@@ -107,12 +105,12 @@ signed_read (negsuc n) f =
     rw (decimal_read (suc n) (omega arith) 2147483648 (omega arith))
 
 -- a number of 16 bits is not too large for an ordinate
-narrow_enough : (z : ℤ) → SFits w16 z → narrowed (Told z) ≡ Given z
+narrow_enough : (z : ℤ) → SFits w16 z → narrowed (Ok z) ≡ Ok (Some z)
 unfolding narrowed
 narrow_enough (pos n) f = let l : n < 32768 = f.sfits in rw (le-ltb 32767 n (omega arith))
 narrow_enough (negsuc n) f = let l : n < 32768 = f.sfits in rw (le-ltb 32767 n (omega arith))
 
-pub ordinate_read : (z : ℤ) → SFits w16 z → ordinate (signed z) ≡ Given z
+pub ordinate_read : (z : ℤ) → SFits w16 z → ordinate (signed z) ≡ Ok (Some z)
 unfolding ordinate
 ordinate_read z f =
     let l : mag z < 32768 = f.sfits in

@@ -12,9 +12,10 @@ use lib.Seq.{drop-cons, drop-length}
 use borrow.Author.Tests.{lt-ltb, le-ltb, ltb-false, eqb-true}
 use Rattle.decimal.specs.Decimal.{value_from, value}
 use Rattle.split.specs.Parts.{marks, stop}
-use Rattle.numeral.specs.Number.{too_large, all_digits, at_most}
+use Rattle.numeral.specs.Number.{all_digits, at_most}
+use Rattle.numeral.specs.declared.Wrong.{Wrong}
+use Rattle.std.specs.Prelude.{Ok, Err}
 use Rattle.split.specs.declared.Mark.TheVariants.{NoDigit}
-use Rattle.numeral.specs.declared.Number.TheVariants.{Whole, Bad}
 use Rattle.split.proofs.Stops.{before_stop}
 
 -- ---- a word of digits alone
@@ -52,7 +53,7 @@ pub summed_none : (s : List ℕ) (most : ℕ) → Summed s most 0 0
 summed_none s most = record { within = omega arith; small = omega arith; decides = refl }
 
 module _ {s : List ℕ} {most sum i : ℕ} (p : Summed s most sum i) where
-  pub summed_all : length s ≤ i → Whole sum ≡ at_most most (value s)
+  pub summed_all : length s ≤ i → Ok sum ≡ at_most most (value s)
   unfolding value_from at_most
   summed_all h =
       let e : i ≡ length s = omega (arith, p.within) in
@@ -67,6 +68,6 @@ module _ {s : List ℕ} {most sum i : ℕ} (p : Summed s most sum i) where
     pub summed_more : next ≤ most → Summed s most next (i + 1)
     summed_more l = record { within = omega arith; small = l; decides = rw add-one then_by }
 
-    pub summed_over : most < next → Bad too_large ≡ at_most most (value s)
+    pub summed_over : most < next → Err Wrong.TooLarge ≡ at_most most (value s)
     unfolding at_most
     summed_over l = rw (lt-ltb most (value s) (omega (arith, then_by, grows next (drop (suc i) s))))

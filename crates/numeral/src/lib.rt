@@ -2,13 +2,44 @@
 // Any bytes are answered.
 #![tactic(auto)]
 
-ghost use Rattle.std.specs.Prelude.{◌≡◌, true};
+ghost use Rattle.std.specs.Prelude.{◌≡◌, true, Ok};
 ghost use Rattle.decimal.specs.Decimal.{value};
-ghost use Rattle.numeral.specs.Number.{plain, starts, all_digits, padded, at_most, natural, above, below, signed_number, narrowed, lone_minus, ordinate};
+ghost use Rattle.numeral.specs.Number.{number_of, plain, starts, all_digits, padded, at_most, natural, above, below, signed_number, narrowed, lone_minus, ordinate};
 
 use split::Mark;
 
+// What is wrong with a word of a text, or with the whole of it, in the order of the numbers of its sentences.
+#[derive(Clone, Copy, PartialEq, Eq)]
+pub enum Wrong {
+    NotWhole = 1,
+    LeadingZero = 2,
+    TooLarge = 3,
+    TooFew = 4,
+    TooMany = 5,
+    TooLong = 6,
+    // Where the sheet is not to be mended.
+    Hole = 7,
+    // A '@' with no name behind it.
+    Nameless = 8,
+    NoSlope = 9,
+    // A knot without a slope behind one with a slope, and the other way.
+    Slopeless = 10,
+    OddSlope = 11,
+    // A slope where the sheet is to be mended.
+    Unmended = 12,
+}
+
+impl Wrong {
+    // The number of its sentence.
+    pub fn number(self) -> u32
+        ensures { result ≡ number_of self }
+    {
+        self as u32
+    }
+}
+
 // Whether its first byte is this one.
+#[tactic(auto, using(crate::proofs::Numbers::starts_by, crate::proofs::Numbers::starts_none))]
 pub fn starts(word: &[u8], byte: u8) -> bool
     ensures { result ≡ starts byte word.now }
 {
@@ -28,6 +59,7 @@ fn padded(word: &[u8]) -> bool
 }
 
 // A word that can be shown as it is.
+#[tactic(auto, unfolding(crate::specs::Number::plain))]
 pub fn plain(word: &[u8]) -> bool
     ensures { result ≡ plain word.now }
 {
@@ -37,48 +69,32 @@ pub fn plain(word: &[u8]) -> bool
     0 < word.len() && split::stop(Mark::Hidden, word) == word.len()
 }
 
-// A whole number, or what is wrong with its word.
-#[derive(Drop)]
-pub enum Number {
-    Whole(u32),
-    Bad(u32),
+fn value(digits: &[u8], most: u32) -> Result<u32, Wrong>
+    requires { all_digits digits.now ≡ true }
+    ensures { result ≡ at_most most (value digits.now) }
+{
+    let mut sum: u64 = 0;
+    for digit in digits {
+        sum = 10 * sum + (*digit - b'0') as u64;
+        if (most as u64) < sum {
+            return Err(Wrong::TooLarge);
+        }
+    }
+    Ok(sum as u32)
 }
 
-impl Number {
-    pub const NOT_WHOLE: u32 = 1;
-
-    pub const LEADING_ZERO: u32 = 2;
-
-    pub const TOO_LARGE: u32 = 3;
-
-    fn value(digits: &[u8], most: u32) -> Number
-        requires { all_digits digits.now ≡ true }
-        ensures { result ≡ at_most most (value digits.now) }
-    {
-        let mut sum: u64 = 0;
-        let mut i: usize = 0;
-        while i < digits.len() {
-            sum = 10 * sum + (digits[i] - b'0') as u64;
-            if (most as u64) < sum {
-                return Number::Bad(Number::TOO_LARGE);
-            }
-            i += 1;
-        }
-        Number::Whole(sum as u32)
+// A whole number; also for an argument of a program.
+#[tactic(auto, unfolding(crate::specs::Number::natural))]
+pub fn natural(word: &[u8], most: u32) -> Result<u32, Wrong>
+    ensures { result ≡ natural most word.now }
+{
+    if !all_digits(word) {
+        return Err(Wrong::NotWhole);
     }
-
-    // Also for an argument of a program.
-    pub fn natural(word: &[u8], most: u32) -> Number
-        ensures { result ≡ natural most word.now }
-    {
-        if !all_digits(word) {
-            return Number::Bad(Number::NOT_WHOLE);
-        }
-        if padded(word) {
-            return Number::Bad(Number::LEADING_ZERO);
-        }
-        Number::value(word, most)
+    if padded(word) {
+        return Err(Wrong::LeadingZero);
     }
+    value(word, most)
 }
 
 // A minus and nothing behind it.
@@ -88,81 +104,55 @@ fn lone_minus(word: &[u8]) -> bool
     word.len() == 1 && starts(word, b'-')
 }
 
-// A whole number with its sign, or what is wrong with its word.
-#[derive(Drop)]
-pub enum Signed {
-    Told(i32),
-    Untold(u32),
+#[tactic(auto, unfolding(crate::specs::Number::above))]
+fn above(digits: &[u8]) -> Result<i32, Wrong>
+    ensures { result ≡ above (natural 2147483647 digits.now) }
+{
+    let n = natural(digits, 2147483647)?;
+    Ok(n as i32)
 }
 
-impl Signed {
-    fn above(digits: &[u8]) -> Signed
-        ensures { result ≡ above (natural 2147483647 digits.now) }
-    {
-        match Number::natural(digits, 2147483647) {
-            Number::Whole(n) => Signed::Told(n as i32),
-            Number::Bad(wrong) => Signed::Untold(wrong),
-        }
+// The negative numbers reach one further than the others, so one goes by its complement.
+#[tactic(auto, unfolding(crate::specs::Number::below))]
+fn below(digits: &[u8]) -> Result<i32, Wrong>
+    ensures { result ≡ below (natural 2147483648 digits.now) }
+{
+    let n = natural(digits, 2147483648)?;
+    if n == 0 {
+        return Err(Wrong::LeadingZero);
     }
+    Ok(!((n - 1) as i32))
+}
 
-    // The negative numbers reach one further than the others, so one goes by its complement.
-    fn below(digits: &[u8]) -> Signed
-        ensures { result ≡ below (natural 2147483648 digits.now) }
-    {
-        match Number::natural(digits, 2147483648) {
-            Number::Whole(n) => {
-                if n == 0 {
-                    return Signed::Untold(Number::LEADING_ZERO);
-                }
-                Signed::Told(!((n - 1) as i32))
-            }
-            Number::Bad(wrong) => Signed::Untold(wrong),
-        }
+// A whole number with its sign.
+#[tactic(auto, unfolding(crate::specs::Number::signed_number), using(crate::proofs::Numbers::starts_some))]
+pub fn signed(word: &[u8]) -> Result<i32, Wrong>
+    ensures { result ≡ signed_number word.now }
+{
+    if starts(word, b'-') {
+        return below(split::from(word, 1));
     }
+    above(word)
+}
 
-    pub fn of(word: &[u8]) -> Signed
-        ensures { result ≡ signed_number word.now }
-    {
-        if starts(word, b'-') {
-            return Signed::below(split::from(word, 1));
-        }
-        Signed::above(word)
+// An ordinate is held in 16 bits.
+#[tactic(auto, unfolding(crate::specs::Number::narrowed))]
+fn narrowed(number: i32) -> Result<Option<i16>, Wrong>
+    ensures { result ≡ narrowed (Ok number) }
+{
+    match i16::try_from(number) {
+        Ok(y) => Ok(Some(y)),
+        Err(_) => Err(Wrong::TooLarge),
     }
 }
 
-// What stands in place of an ordinate; a minus alone is a hole.
-#[derive(Drop)]
-pub enum Ordinate {
-    Given(i16),
-    Hole,
-    Wrong(u32),
-}
-
-impl Ordinate {
-    // An ordinate is held in 16 bits.
-    fn narrowed(number: Signed) -> Ordinate
-        ensures { result ≡ narrowed number }
-    {
-        match number {
-            Signed::Untold(wrong) => Ordinate::Wrong(wrong),
-            Signed::Told(z) => {
-                if z < -32768 {
-                    return Ordinate::Wrong(Number::TOO_LARGE);
-                }
-                if 32767 < z {
-                    return Ordinate::Wrong(Number::TOO_LARGE);
-                }
-                Ordinate::Given(z as i16)
-            }
-        }
+// An ordinate, or None for a hole: a minus alone.
+#[tactic(auto, unfolding(crate::specs::Number::ordinate, crate::specs::Number::narrowed))]
+pub fn ordinate(word: &[u8]) -> Result<Option<i16>, Wrong>
+    ensures { result ≡ ordinate word.now }
+{
+    if lone_minus(word) {
+        return Ok(None);
     }
-
-    pub fn of(word: &[u8]) -> Ordinate
-        ensures { result ≡ ordinate word.now }
-    {
-        if lone_minus(word) {
-            return Ordinate::Hole;
-        }
-        Ordinate::narrowed(Signed::of(word))
-    }
+    narrowed(signed(word)?)
 }

@@ -7,15 +7,19 @@ ghost use Rattle.std.specs.Prelude.{◌≡◌, ◌≤◌, length};
 ghost use Rattle.answer.specs.Judge.{verdict_of};
 ghost use Rattle.curve.specs.Orders.{sound};
 ghost use Rattle.knots.specs.Kinds.{kind_of};
+ghost use Rattle.knots.specs.Lent.{lent};
 ghost use Rattle.card_bytes.specs.Records.{kind_by};
 ghost use Rattle.decode.specs.Decoded.{decoded, Full};
+ghost use Rattle.opened.specs.Readable.{Readable};
 ghost use Rattle.opened.specs.Steps.{carried_by, behind_head, shaped, Opens};
 
 use answer::Judged;
 use decode::Card;
 use knots::Kind;
+use lists::Lists;
 
 // 1, 2; 15; the other records 14.
+#[tactic(auto, using(answer::proofs::Orders::orders), unfolding(crate::specs::Steps::behind_head, crate::specs::Steps::limited, curve::specs::Steps::counted))]
 fn behind_head(kind: Kind, card: &[u8]) -> Judged
     requires { 10 ≤ length card.now }
     ensures { verdict_of result ≡ behind_head (kind_of kind) card.now }
@@ -23,44 +27,46 @@ fn behind_head(kind: Kind, card: &[u8]) -> Judged
     let n = little_endian::read_u16(card, 4) as usize;
     let left = little_endian::read_u16(card, 6);
     let right = little_endian::read_u16(card, 8);
-    match answer::first(knots::counted(n), knots::codes(kind, left, right)) {
-        Judged::Refused(number, place) => Judged::Refused(number, place),
-        Judged::Accepted => card_bytes::records_due(card, n),
-    }
+    knots::counted(n)?;
+    knots::codes(kind, left, right)?;
+    card_bytes::records_due(card, n)
 }
 
 // Head 14 before them.
+#[tactic(auto, using(answer::proofs::Orders::orders, crate::proofs::Shape::headed), unfolding(crate::specs::Steps::shaped))]
 fn shaped(kind: Kind, card: &[u8]) -> Judged
     ensures { verdict_of result ≡ shaped (kind_of kind) card.now }
 {
-    match card_bytes::head_due(card, kind.head) {
-        Judged::Refused(number, place) => Judged::Refused(number, place),
-        Judged::Accepted => behind_head(kind, card),
-    }
+    card_bytes::head_due(card, kind.head)?;
+    behind_head(kind, card)
 }
 
 // Per knot 4, 5, 6; 9; 10, of a card that was decoded.
-fn sound(kind: Kind, card: Card) -> Judged
-    requires { Full card }
-    ensures { verdict_of result ≡ sound (kind_of kind) (decoded card) }
+#[tactic(auto, unfolding(decode::specs::Decoded::decoded))]
+fn sound(kind: Kind, card: &Card) -> Judged
+    requires { Full card.now }
+    ensures { verdict_of result ≡ sound (kind_of kind) (decoded card.now) }
 {
-    let n = card.knots;
-    let minutes = card.minutes;
-    let ordinates = card.ordinates;
-    let slopes = card.slopes;
-    let curvatures = card.curvatures;
-    lists::sound(
-        kind,
-        card.left,
-        card.right,
-        &minutes[..n],
-        &ordinates[..n],
-        &slopes[..n],
-        &curvatures[..n],
-    )
+    lists::sound(kind, card.lent())
+}
+
+// The lists of a card that can be read.
+#[tactic(auto, unfolding(decode::specs::Decoded::decoded))]
+pub fn lists(card: &Card) -> Lists<'_>
+    requires { Readable card.now }
+    ensures { lent result.minutes.now result.ordinates.now result.slopes.now result.curvatures.now card.now.left card.now.right ≡ decoded card.now }
+{
+    let held = card.lent();
+    Lists {
+        minutes: held.minutes,
+        ordinates: held.ordinates,
+        slopes: held.slopes,
+        curvatures: held.curvatures,
+    }
 }
 
 // Order 8's kind where its head stands; else document 01's, whose head is then due.
+#[tactic(auto, unfolding(crate::specs::Steps::carried_by, curve::specs::Kind::sloped))]
 fn kind_by(card: &[u8]) -> Kind
     ensures { result ≡ carried_by card.now }
 {
@@ -86,15 +92,15 @@ impl Opened {
         ensures { Opens kind (kind_of kind) result card.now }
     {
         match shaped(kind, card) {
-            Judged::Refused(number, place) => Opened {
-                verdict: Judged::Refused(number, place),
+            Err(refusal) => Opened {
+                verdict: Err(refusal),
                 kind,
                 card: Card::none(),
             },
-            Judged::Accepted => {
+            Ok(()) => {
                 let held = Card::of(card);
                 Opened {
-                    verdict: sound(kind, held),
+                    verdict: sound(kind, &held),
                     kind,
                     card: held,
                 }

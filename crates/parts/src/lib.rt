@@ -24,48 +24,35 @@ impl Added {
         requires { Light h k w }
         ensures { result ≡ adds h k w }
     {
-        let y = k.ordinate;
-        let m = k.slope;
-        let c = k.curvature;
-        let o = w.ordinate;
-        let s = w.slope;
-        let v = w.curvature;
         Added {
-            ordinate: 8192 * (y * o),
-            slope: 2 * h * (m * s),
-            curvature: h * h * (c * v),
+            ordinate: 8192 * (k.ordinate * w.ordinate),
+            slope: 2 * h * (k.slope * w.slope),
+            curvature: h * h * (k.curvature * w.curvature),
         }
     }
 
+    #[tactic(auto, using(std::proofs::lemmas::Int::ints), unfolding(crate::specs::Parts::size, crate::specs::Parts::sum_of))]
     fn sum(self) -> i64
         requires { size self < 2 ^ 63 }
         ensures { result ≡ sum_of self }
     {
-        let y = self.ordinate;
-        let m = self.slope;
-        let c = self.curvature;
-        y + m + c
+        self.ordinate + self.slope + self.curvature
     }
 }
 
 // The right knot as it is seen with the minutes running the other way, where a slope that is read changes its sign too.
+#[tactic(auto, using(std::proofs::lemmas::Int::ints), unfolding(crate::specs::Parts::seen, gaps::specs::Knots::mirror))]
 fn seen(q: weights::Quantity, k: gaps::Knot) -> gaps::Knot
     requires { Keeps far k }
     ensures { result ≡ seen q k }
 {
     match q {
-        weights::Quantity::Value => k.mirrored(),
-        weights::Quantity::Slope => {
-            let y = k.ordinate;
-            let m = k.slope;
-            let c = k.curvature;
-            gaps::Knot {
-                ordinate: -y,
-                slope: m,
-                curvature: -c,
-            }
-        }
-        weights::Quantity::Curvature => k.mirrored(),
+        weights::Quantity::Value | weights::Quantity::Curvature => k.mirrored(),
+        weights::Quantity::Slope => gaps::Knot {
+            ordinate: -k.ordinate,
+            curvature: -k.curvature,
+            ..k
+        },
     }
 }
 
@@ -95,9 +82,7 @@ pub fn numerator(q: weights::Quantity, h: i64, t: i64, a: gaps::Knot, b: gaps::K
     ensures { result ≡ worth (∂^ (derivative q) (drawn h a b)) t }
 {
     let parts = Parts::of(q, h, t, a, b);
-    let left = parts.left;
-    let right = parts.right;
-    left.sum() + right.sum()
+    parts.left.sum() + parts.right.sum()
 }
 
 // Under the value stands 8192 h^5; under the slope and the curvature, which are taken 4096 times, 2 h^5.
@@ -106,8 +91,7 @@ fn under(q: weights::Quantity) -> u64
 {
     match q {
         weights::Quantity::Value => 8192,
-        weights::Quantity::Slope => 2,
-        weights::Quantity::Curvature => 2,
+        weights::Quantity::Slope | weights::Quantity::Curvature => 2,
     }
 }
 

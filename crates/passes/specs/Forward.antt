@@ -1,37 +1,37 @@
 -- The forward pass, over whatever is done at a knot: it goes from the first knot to the last, or to the one where 8 is
 -- first met. Assumes nothing.
-use Rattle.std.specs.Prelude.{ℕ, zero, suc, ◌<◌, ◌≡◌, get_or}
+use Rattle.std.specs.Prelude.{ℕ, zero, suc, ◌<◌, ◌≡◌, List, get_or, Option, Some, None, Ok, Err}
 use Rattle.std.specs.Float.{nan}
 use Rattle.elimination.specs.declared.State.{State}
-use Rattle.elimination.specs.declared.Step.{Step}
-use Rattle.elimination.specs.declared.Step.TheVariants.{Went, Stuck}
+use Rattle.answer.specs.declared.Reason.TheVariants.{Stuck}
+use Rattle.answer.specs.declared.Refusal.{Refusal}
+use Rattle.answer.specs.Judge.{Judged}
 use Rattle.rows.specs.Equations.{pair, block}
 use Rattle.elimination.specs.Elimination.{zero_state}
-use Rattle.elimination.specs.Refusal.{number_of_step, left_by_step}
-use Rattle.passes.specs.declared.Forward.{Forward}
+use Rattle.elimination.specs.Refusal.{left_by_step}
 
 -- how far elimination has come: with what it left of the knot before, or stuck at a knot
 pub data Run : Type 0 where
   going : State → Run
   stuck : ℕ → Run
 
-abbrev pub landed : ℕ → Step → Run
-landed i (Went x) = going x
-landed i Stuck = stuck i
+abbrev pub landed : ℕ → Option State → Run
+landed i (Some x) = going x
+landed i None = stuck i
 
 abbrev pub left_by : Run → State
-left_by (going x) = left_by_step (Went x)
-left_by (stuck i) = left_by_step Stuck
+left_by (going x) = left_by_step (Some x)
+left_by (stuck i) = left_by_step None
 
-abbrev pub number_of : Run → ℕ
-number_of (going x) = number_of_step (Went x)
-number_of (stuck i) = number_of_step Stuck
+-- number 8 at a knot
+abbrev pub stuck_at : ℕ → Refusal
+stuck_at i = record { reason = Stuck; place = i }
 
-abbrev pub place_of : Run → ℕ
-place_of (going x) = 0
-place_of (stuck i) = i
+abbrev pub judged_of : Run → Judged
+judged_of (going x) = Ok tt
+judged_of (stuck i) = Err (stuck_at i)
 
-module _ (step : State → ℕ → Step) where
+module _ (step : State → ℕ → Option State) where
   abbrev pub advance : ℕ → Run → Run
   advance i (going before) = landed i (step before i)
   advance i (stuck j) = stuck j
@@ -50,7 +50,6 @@ abbrev pub no_state : State
 no_state = record { h = block nan nan nan nan; p = pair nan nan }
 
 -- what the forward pass over n knots answers; the states count only where it was not stuck
-pub record Forwarded (step : State → ℕ → Step) (n : ℕ) (r : Forward) : Type 0 where
-  pub number_is : r.number ≡ number_of (run_to step n)
-  pub place_is : r.place ≡ place_of (run_to step n)
-  pub states_are : (k : ℕ) → r.number ≡ 0 → k < n → get_or r.states k no_state ≡ state_at step k
+pub record Forwarded (step : State → ℕ → Option State) (n : ℕ) (r : Judged) (states : List State) : Type 0 where
+  pub answer : r ≡ judged_of (run_to step n)
+  pub states_are : (k : ℕ) → r ≡ Ok tt → k < n → get_or states k no_state ≡ state_at step k

@@ -1,10 +1,9 @@
 -- The knots of a sheet, given as minutes and ordinates, in the elimination: which gaps lie beside knot i and which end
 -- it is, after document 01's "The equations"; and which slopes, where they are given too (document 02, order
 -- 8). Assumes nothing; read for rising minutes and lists of one length.
-use Rattle.std.specs.Prelude.{ℕ, zero, suc, ◌+◌, ◌-◌, ◌<◌, Bool, cond, List, eqb, length, get_or, ℤ, pos, Float}
+use Rattle.std.specs.Prelude.{ℕ, zero, suc, ◌+◌, ◌-◌, ◌<◌, Bool, cond, List, eqb, length, get_or, ℤ, pos, Float, Option}
 use Rattle.rows.specs.declared.Gap.{Gap}
 use Rattle.elimination.specs.declared.State.{State}
-use Rattle.elimination.specs.declared.Step.{Step}
 use Rattle.rows.specs.declared.End.{End}
 use Rattle.rows.specs.declared.End.TheVariants.{Free}
 use Rattle.rows.specs.Floats.{f0}
@@ -28,7 +27,7 @@ unfoldable pub end_of : ℕ → End → End → ℕ → End
 end_of n left right i = cond (eqb i 0) left (cond (is_last n i) right Free)
 
 -- knot i of n between the gaps p and g, given what elimination left of the knot before
-unfoldable pub knot_between : ℕ → End → End → Gap → Gap → State → ℕ → Step
+unfoldable pub knot_between : ℕ → End → End → Gap → Gap → State → ℕ → Option State
 knot_between n left right p g before i = eliminated (equations p g (end_of n left right i)) before (eqb i 0) (is_last n i)
 
 -- ---- slopes given, one for each knot
@@ -45,7 +44,7 @@ module _ (slopes : List ℤ) where
   slope_after i = cond (is_last (length slopes) i) f0 (slope_of (i + 1))
 
   -- knot i between the gaps p and g, given what elimination left of the knot before
-  unfoldable pub line_between : Gap → Gap → State → ℕ → Step
+  unfoldable pub line_between : Gap → Gap → State → ℕ → Option State
   line_between p g before i = line_eliminated (line p g (slope_before i) (slope_of i) (slope_after i)) before (eqb i 0) (is_last (length slopes) i)
 
 -- ---- a sheet
@@ -65,9 +64,9 @@ module _ (minutes : List ℕ) (ordinates : List ℤ) where
   left_gap (suc i) = right_gap i
 
   -- what the forward pass does at knot i
-  unfoldable pub knot_at : End → End → State → ℕ → Step
+  unfoldable pub knot_at : End → End → State → ℕ → Option State
   knot_at left right before i = knot_between (length minutes) left right (left_gap i) (right_gap i) before i
 
   -- the same of order 8
-  unfoldable pub line_at : (slopes : List ℤ) → State → ℕ → Step
+  unfoldable pub line_at : (slopes : List ℤ) → State → ℕ → Option State
   line_at slopes before i = line_between slopes (left_gap i) (right_gap i) before i

@@ -8,18 +8,16 @@ ghost use Rattle.std.specs.Prelude.{◌≡◌, ◌+◌, ◌≤◌, ◌<◌, pos,
 ghost use Rattle.lines.specs.Lines.{hundredths};
 ghost use Rattle.passes.specs.Sheet.{most, Rising, end_of, knot_between, right_gap, slope_before, slope_after, line_between};
 ghost use Rattle.passes.specs.Jobs.{between_by, step_by, turn_by};
-ghost use Rattle.passes.specs.Forward.{Forwarded};
+ghost use Rattle.passes.specs.Forward.{stuck_at, Forwarded};
 ghost use Rattle.passes.specs.Back.{turned};
-ghost use Rattle.passes.specs.Passes.{refused, passes};
+ghost use Rattle.passes.specs.Passes.{passes};
 
-use elimination::{State, Step};
+use answer::{Judged, Reason, Refusal};
+use elimination::State;
 use rows::{End, Gap, Pair};
 
 // The most knots that a sheet may have.
 pub const MOST: usize = 64;
-
-// The number of a step that is stuck.
-const STUCK: u32 = 8;
 
 // What is solved for: the slopes and curvatures between two ends, or the curvatures alone, the slopes given.
 #[derive(Clone, Copy)]
@@ -28,22 +26,8 @@ pub enum Job {
     Slopes,
 }
 
-// The pairs of the knots, zeros behind them and behind a refusal.
-#[derive(Drop)]
-pub struct Solved {
-    pub number: u32,
-    pub place: u32,
-    pub pairs: [Pair; MOST],
-}
-
-#[derive(Drop)]
-struct Forward {
-    number: u32,
-    place: u32,
-    states: [State; MOST],
-}
-
 // The gap on the right of knot i.
+#[tactic(auto, unfolding(crate::specs::Sheet::right_gap))]
 fn gap_after(minutes: &[u16], ordinates: &[i16], i: usize) -> Gap
     requires i_in_bounds { (i < length minutes.now) × (length minutes.now ≤ most) × (length ordinates.now ≡ length minutes.now) }
     requires rising { Rising minutes.now }
@@ -56,6 +40,7 @@ fn gap_after(minutes: &[u16], ordinates: &[i16], i: usize) -> Gap
     }
 }
 
+#[tactic(auto, unfolding(crate::specs::Sheet::end_of))]
 fn end_at(n: usize, left: End, right: End, i: usize) -> End
     requires { i < n }
     ensures { result ≡ end_of n left right i }
@@ -70,7 +55,8 @@ fn end_at(n: usize, left: End, right: End, i: usize) -> End
 }
 
 // Knot i of n between the gaps p and g, given what elimination left of the one before.
-fn knot(n: usize, left: End, right: End, p: Gap, g: Gap, before: State, i: usize) -> Step
+#[tactic(auto, unfolding(crate::specs::Sheet::knot_between))]
+fn knot(n: usize, left: End, right: End, p: Gap, g: Gap, before: State, i: usize) -> Option<State>
     requires { i < n }
     ensures { result ≡ knot_between n left right p g before i }
 {
@@ -91,6 +77,7 @@ fn slope_of(slopes: &[i32], i: usize) -> f64
 }
 
 // Of the knot before knot i; the first has none.
+#[tactic(auto, unfolding(crate::specs::Sheet::slope_before))]
 fn slope_before(slopes: &[i32], i: usize) -> f64
     requires { i < length slopes.now }
     ensures { result ≡ slope_before slopes.now i }
@@ -99,6 +86,7 @@ fn slope_before(slopes: &[i32], i: usize) -> f64
 }
 
 // Of the knot after knot i; the last has none.
+#[tactic(auto, unfolding(crate::specs::Sheet::slope_after))]
 fn slope_after(slopes: &[i32], i: usize) -> f64
     requires { (i < length slopes.now) × (length slopes.now ≤ most) }
     ensures { result ≡ slope_after slopes.now i }
@@ -111,7 +99,8 @@ fn slope_after(slopes: &[i32], i: usize) -> f64
 }
 
 // Knot i between the gaps p and g, given what elimination left of the one before.
-fn line_knot(slopes: &[i32], p: Gap, g: Gap, before: State, i: usize) -> Step
+#[tactic(auto, unfolding(crate::specs::Sheet::line_between))]
+fn line_knot(slopes: &[i32], p: Gap, g: Gap, before: State, i: usize) -> Option<State>
     requires { (i < length slopes.now) × (length slopes.now ≤ most) }
     ensures { result ≡ line_between slopes.now p g before i }
 {
@@ -125,7 +114,7 @@ fn line_knot(slopes: &[i32], p: Gap, g: Gap, before: State, i: usize) -> Step
 // ---- either job
 
 // One knot for each slope.
-fn knot_by(slopes: &[i32], job: Job, p: Gap, g: Gap, before: State, i: usize) -> Step
+fn knot_by(slopes: &[i32], job: Job, p: Gap, g: Gap, before: State, i: usize) -> Option<State>
     requires { (i < length slopes.now) × (length slopes.now ≤ most) }
     ensures { result ≡ between_by slopes.now job p g before i }
 {
@@ -144,93 +133,74 @@ fn back_by(job: Job, x: State, next: Pair) -> Pair
     }
 }
 
-// The gap on a knot's right is kept for the next, whose left it is.
-fn forward_pass(minutes: &[u16], ordinates: &[i16], slopes: &[i32], job: Job) -> Forward
-    requires minutes_len_bound { (length minutes.now ≤ most) × (length ordinates.now ≡ length minutes.now) × (length slopes.now ≡ length minutes.now) }
-    requires rising { Rising minutes.now }
-    ensures { Forwarded (step_by minutes.now ordinates.now slopes.now job) (length minutes.now) result }
+// Number 8 at knot i.
+fn stuck(i: usize) -> Refusal
+    requires { i < most }
+    ensures { result ≡ stuck_at i }
 {
-    let zero = elimination::start();
-    let mut states = [zero; MOST];
-    let mut before = zero;
-    let mut p = rows::empty_gap();
-    let mut i = 0;
-    while i < minutes.len() {
-        let g = gap_after(minutes, ordinates, i);
-        let x = knot_by(slopes, job, p, g, before, i);
-        match x {
-            Step::Went(s) => {
-                states[i] = s;
-                before = s;
-                p = g;
-            }
-            Step::Stuck => {
-                return Forward {
-                    number: STUCK,
-                    place: i as u32,
-                    states,
-                };
-            }
-        }
-        i += 1;
-    }
-    Forward {
-        number: 0,
-        place: 0,
-        states,
+    Refusal {
+        reason: Reason::Stuck,
+        place: i as u32,
     }
 }
 
+// What elimination leaves of each knot, in lent room. The gap on a knot's right is kept for the next, whose left it is.
+fn forward_pass(
+    minutes: &[u16],
+    ordinates: &[i16],
+    slopes: &[i32],
+    job: Job,
+    states: &mut [State],
+) -> Judged
+    requires minutes_len_bound { (length minutes.now ≤ most) × (length ordinates.now ≡ length minutes.now) × (length slopes.now ≡ length minutes.now) }
+    requires rising { Rising minutes.now }
+    requires room { length states.old ≡ most }
+    ensures { Forwarded (step_by minutes.now ordinates.now slopes.now job) (length minutes.now) result states.new }
+{
+    let mut before = elimination::start();
+    let mut p = rows::empty_gap();
+    for i in 0..minutes.len() {
+        let g = gap_after(minutes, ordinates, i);
+        before = knot_by(slopes, job, p, g, before, i).ok_or(stuck(i))?;
+        states[i] = before;
+        p = g;
+    }
+    Ok(())
+}
+
 // The pair of a knot with j knots behind it.
+#[tactic(auto, unfolding(crate::specs::Back::turned))]
 fn pair_before(job: Job, x: State, next: Pair, j: usize) -> Pair
     ensures { result ≡ turned (turn_by job) x next j }
 {
     if j == 0 { x.p } else { back_by(job, x, next) }
 }
 
-fn refuse(place: u32) -> Solved
-    ensures { result ≡ refused place }
-{
-    let zero = elimination::no_pair();
-    Solved {
-        number: STUCK,
-        place,
-        pairs: [zero; MOST],
-    }
-}
-
-// The slope and the curvature of each knot, in hundredths per minute (squared): forward, then back. The
-// slopes are read only where they are what is given. Both passes stand in one function, since whoever hands
-// the states on copies them, and they are a third of a fit's stack.
-pub fn pairs_of(minutes: &[u16], ordinates: &[i16], slopes: &[i32], job: Job) -> Solved
+// The slope and the curvature of each knot, in hundredths per minute (squared), zeros behind them: forward, then
+// back. The slopes are read only where they are what is given. The states stand here alone, since they are a third of
+// a fit's stack.
+pub fn pairs_of(
+    minutes: &[u16],
+    ordinates: &[i16],
+    slopes: &[i32],
+    job: Job,
+) -> Result<[Pair; MOST], Refusal>
     requires minutes_len_bound { (length minutes.now ≤ most) × (length ordinates.now ≡ length minutes.now) × (length slopes.now ≡ length minutes.now) }
     requires rising { Rising minutes.now }
     ensures { result ≡ passes (step_by minutes.now ordinates.now slopes.now job) (turn_by job) (length minutes.now) }
 {
-    let f = forward_pass(minutes, ordinates, slopes, job);
-    if f.number != 0 {
-        return refuse(f.place);
-    }
     let n = minutes.len();
-    let zero = elimination::no_pair();
-    let mut pairs = [zero; MOST];
-    let mut next = zero;
-    let mut j = 0;
-    while j < n {
+    let mut states = [elimination::start(); MOST];
+    forward_pass(minutes, ordinates, slopes, job, &mut states)?;
+    let mut next = elimination::no_pair();
+    let mut pairs = [next; MOST];
+    for j in 0..n {
         let k = n - 1 - j;
-        let x = f.states[k];
-        let v = pair_before(job, x, next, j);
-        if elimination::finite_pair(v) {
-            pairs[k] = v;
-            next = v;
-        } else {
-            return refuse(k as u32);
+        next = pair_before(job, states[k], next, j);
+        if !elimination::finite_pair(next) {
+            return Err(stuck(k));
         }
-        j += 1;
+        pairs[k] = next;
     }
-    Solved {
-        number: 0,
-        place: 0,
-        pairs,
-    }
+    Ok(pairs)
 }

@@ -8,14 +8,12 @@ use native.Mathlib.Nat.{add_assoc}
 use native.Mathlib.Omega.{arith}
 use lib.ListN.{length, drop, length-drop}
 use lib.Dec.{eqb, lit<}
-use borrow.Author.Tests.{le-leb, lt-leb, eq-eqb, ne_eqb, leb-true, eqb-true}
+use borrow.Author.Tests.{le-leb, lt-leb, eq-eqb, leb-true, eqb-true}
 use Rattle.answer.specs.Answer.{Answer, refused, given, ◌then◌, refuse}
-use Rattle.answer.proofs.Steps.{not_both}
 use Rattle.little_endian.specs.Numbers.{le, num_at, Bytes}
 use Rattle.record.specs.Record.{header, is_at, Span, span, found_of, record_at}
-use Rattle.record.specs.declared.Cursor.{Cursor}
-use Rattle.record.specs.declared.Found.{Found}
-use Rattle.record.specs.declared.Found.TheVariants.{Body, Bad}
+use Rattle.record.specs.declared.Body.{Body}
+use Rattle.std.specs.Prelude.{Result, Ok, Err}
 use Rattle.little_endian.proofs.Numbers.{peel, stood}
 
 both : (a b : Bool) → (a && b) ≡ true → (a ≡ true) × (b ≡ true)
@@ -23,13 +21,13 @@ both true b t = (refl, t)
 both false b t = absurd (true≢false (sym t))
 
 -- a number, a place and values belong to one answer only, so that a promise of them leaves one outcome
-pub one_found : (a b : Found) → found_of a ≡ found_of b → a ≡ b
-one_found (Body start next) (Body start' next') e =
-    let f : span start next.at ≡ span start' next'.at = cc in
-    ap (λ (a : Span). Body a.start (record { at = a.next })) f
-one_found (Body start next) (Bad at) e = absurd (not_both (sym e))
-one_found (Bad at) (Body start next) e = absurd (not_both e)
-one_found (Bad at) (Bad at') e = cc
+pub one_found : (a b : Result Body ℕ) → found_of a ≡ found_of b → a ≡ b
+one_found (Ok a) (Ok b) e =
+    let f : span a.start a.next.at ≡ span b.start b.next.at = cc in
+    ap (λ (s : Span). Ok (record { start = s.start; next = record { at = s.next } })) f
+one_found (Ok a) (Err at) e = cc
+one_found (Err at) (Ok b) e = cc
+one_found (Err at) (Err at') e = cc
 
 module _ (s : List ℕ) (at kind long : ℕ) where
   -- what a record that stands at an offset has
@@ -49,15 +47,11 @@ module _ (s : List ℕ) (at kind long : ℕ) where
       let q = both _ _ p.1 in
       record { whole = leb-true _ _ p.0; has_length = eqb-true _ _ q.0; has_kind = eqb-true _ _ q.1 }
 
-  -- ---- the tests, one after the other
+  -- ---- the tests
 
   pub cut : length s < at + (4 + long) → false ≡ is_at s at kind long
   unfolding is_at
   cut h = simp (lt-leb _ _ h)
-
-  pub other_length : at + (4 + long) ≤ length s → (num_at 2 s at ≡ long → ⊥) → false ≡ is_at s at kind long
-  unfolding is_at
-  other_length w h = simp (le-leb _ _ w, ne_eqb _ _ h)
 
   pub of_kind : at + (4 + long) ≤ length s → num_at 2 s at ≡ long → eqb (num_at 2 s (at + 2)) kind ≡ is_at s at kind long
   unfolding is_at
@@ -75,35 +69,34 @@ module _ (s : List ℕ) (at kind long : ℕ) where
 
   -- ---- what a caller learns of an answer
 
-  answered : Bool → Answer Span
+  abbrev answered : Bool → Answer Span
   answered t = refuse 14 at (not t) then given (span (at + 4) (at + (4 + long)))
 
-  pub record Present (start : ℕ) (next : Cursor) : Type 0 where
+  pub record Present (body : Body) : Type 0 where
     pub is : is_at s at kind long ≡ true
-    pub body : start ≡ at + 4
-    pub behind : next.at ≡ at + (4 + long)
+    pub start : body.start ≡ at + 4
+    pub behind : body.next.at ≡ at + (4 + long)
 
-  pub present : {r : Found} {start : ℕ} {next : Cursor}
-      → found_of r ≡ record_at s at kind long → r ≡ Body start next → Present start next
-  unfolding record_at refuse ◌then◌ answered
-  present {r} {start} {next} p q = go (is_at s at kind long) refl (sym (ap found_of q) ∙ p)
+  pub present : {r : Result Body ℕ} {body : Body} → found_of r ≡ record_at s at kind long → r ≡ Ok body → Present body
+  unfolding record_at refuse ◌then◌
+  present {r} {body} p q = go (is_at s at kind long) refl (sym (ap found_of q) ∙ p)
     where
-      go : (t : Bool) → is_at s at kind long ≡ t → given (span start next.at) ≡ answered t → Present start next
+      go : (t : Bool) → is_at s at kind long ≡ t → given (span body.start body.next.at) ≡ answered t → Present body
       go true i e =
-          let f : span start next.at ≡ span (at + 4) (at + (4 + long)) = cc in
-          record { is = i; body = ap (λ (a : Span). a.start) f; behind = ap (λ (a : Span). a.next) f }
-      go false i e = absurd (not_both (sym e))
+          let f : span body.start body.next.at ≡ span (at + 4) (at + (4 + long)) = cc in
+          record { is = i; start = ap (λ (a : Span). a.start) f; behind = ap (λ (a : Span). a.next) f }
+      go false i e = cc
 
   pub record Missing (place : ℕ) : Type 0 where
     pub is_not : is_at s at kind long ≡ false
     pub offset : place ≡ at
 
-  pub missing : {r : Found} {place : ℕ} → found_of r ≡ record_at s at kind long → r ≡ Bad place → Missing place
-  unfolding record_at refuse ◌then◌ answered
+  pub missing : {r : Result Body ℕ} {place : ℕ} → found_of r ≡ record_at s at kind long → r ≡ Err place → Missing place
+  unfolding record_at refuse ◌then◌
   missing {r} {place} p q = go (is_at s at kind long) refl (sym (ap found_of q) ∙ p)
     where
       go : (t : Bool) → is_at s at kind long ≡ t → refused 14 place ≡ answered t → Missing place
-      go true i e = absurd (not_both e)
+      go true i e = cc
       go false i e = record { is_not = i; offset = cc }
 
   -- ---- a header's bytes

@@ -1,10 +1,9 @@
 -- A record: "two-byte length of the body, two-byte kind, body, little-endian" (document 01, "Card bytes"), and what is
 -- answered where one is due. Assumes nothing.
-use Rattle.std.specs.Prelude.{ℕ, ◌+◌, List, ◌++◌, Bool, not, ◌&&◌, length, leb, eqb}
+use Rattle.std.specs.Prelude.{ℕ, ◌+◌, List, ◌++◌, Bool, not, ◌&&◌, length, leb, eqb, Result, Ok, Err}
 use Rattle.answer.specs.Answer.{Answer, refused, given, ◌then◌, refuse}
 use Rattle.little_endian.specs.Numbers.{le, num_at}
-use Rattle.record.specs.declared.Found.{Found}
-use Rattle.record.specs.declared.Found.TheVariants.{Body, Bad}
+use Rattle.record.specs.declared.Body.{Body}
 
 -- the four bytes before a body
 unfoldable pub header : ℕ → ℕ → List ℕ
@@ -23,9 +22,10 @@ pub record Span : Type 0 where
 abbrev pub span : ℕ → ℕ → Span
 span start next = record { start = start; next = next }
 
-abbrev pub found_of : Found → Answer Span
-found_of (Body start next) = given (span start next.at)
-found_of (Bad at) = refused 14 at
+-- what the code answers where a record is due
+abbrev pub found_of : Result Body ℕ → Answer Span
+found_of (Ok body) = given (span body.start body.next.at)
+found_of (Err at) = refused 14 at
 
 -- 14: "record cut short, wrong kind or length", at the "offset of that record"
 unfoldable pub record_at : List ℕ → ℕ → ℕ → ℕ → Answer Span

@@ -1,3 +1,2 @@
-pub mod Difference
 pub mod Examples
 pub mod Patterns

@@ -3,7 +3,10 @@
 #![tactic(auto)]
 
 ghost use Rattle.std.specs.Prelude.{◌≡◌};
+ghost use Rattle.rows.specs.Matrices.{◌times◌, ◌on◌, ◌less◌, ◌minus◌};
 ghost use Rattle.rows.specs.Equations.{one_over, powers, difference, gap, no_gap, row, second, both_given, curvature_given, replaced, equations};
+
+use std::ops::{Mul, Sub};
 
 // A slope with a curvature; a right side; a column.
 #[derive(Clone, Copy)]
@@ -61,10 +64,70 @@ pub const ZEROS: Block = Block {
     e22: 0.0,
 };
 
+// ---- matrices: each entry of a product is two products, then their sum
+
+impl Mul for Block {
+    type Output = Block;
+
+    ghost mul_gives = { λ m n r. r ≡ m times n };
+
+    fn mul(self, n: Block) -> Block {
+        Block {
+            e11: self.e11 * n.e11 + self.e12 * n.e21,
+            e12: self.e11 * n.e12 + self.e12 * n.e22,
+            e21: self.e21 * n.e11 + self.e22 * n.e21,
+            e22: self.e21 * n.e12 + self.e22 * n.e22,
+        }
+    }
+}
+
+impl Mul<Pair> for Block {
+    type Output = Pair;
+
+    ghost mul_gives = { λ m v r. r ≡ m on v };
+
+    fn mul(self, v: Pair) -> Pair {
+        Pair {
+            s: self.e11 * v.s + self.e12 * v.c,
+            c: self.e21 * v.s + self.e22 * v.c,
+        }
+    }
+}
+
+impl Sub for Block {
+    type Output = Block;
+
+    ghost sub_gives = { λ m n r. r ≡ m less n };
+
+    fn sub(self, n: Block) -> Block {
+        Block {
+            e11: self.e11 - n.e11,
+            e12: self.e12 - n.e12,
+            e21: self.e21 - n.e21,
+            e22: self.e22 - n.e22,
+        }
+    }
+}
+
+impl Sub for Pair {
+    type Output = Pair;
+
+    ghost sub_gives = { λ v w r. r ≡ v minus w };
+
+    fn sub(self, w: Pair) -> Pair {
+        Pair {
+            s: self.s - w.s,
+            c: self.c - w.c,
+        }
+    }
+}
+
+// ---- gaps
+
 fn inverse(h: u16) -> f64
     ensures { result ≡ one_over h }
 {
-    1.0 / (h as f64)
+    1.0 / f64::from(h)
 }
 
 fn powers_of(g: f64) -> Powers
@@ -79,10 +142,11 @@ fn powers_of(g: f64) -> Powers
 fn rise_over(y: i16, next: i16) -> f64
     ensures { result ≡ difference y next }
 {
-    ((next as i32) - (y as i32)) as f64
+    f64::from(i32::from(next) - i32::from(y))
 }
 
 // A gap of h minutes, from the ordinate y to the next.
+#[tactic(auto, unfolding(crate::specs::Equations::gap))]
 pub fn gap_of(h: u16, y: i16, next: i16) -> Gap
     ensures { result ≡ gap h y next }
 {
@@ -91,12 +155,15 @@ pub fn gap_of(h: u16, y: i16, next: i16) -> Gap
     Gap { powers, rise }
 }
 
+#[tactic(auto, unfolding(crate::specs::Equations::no_gap))]
 pub fn empty_gap() -> Gap
     ensures { result ≡ no_gap }
 {
     let powers = powers_of(0.0);
     Gap { powers, rise: 0.0 }
 }
+
+// ---- rows
 
 // A, L, R and k for the gaps p on the left and g on the right.
 fn row_of(p: Powers, e: f64, g: Powers, d: f64) -> Row
@@ -131,45 +198,41 @@ fn row_of(p: Powers, e: f64, g: Powers, d: f64) -> Row
 fn with_second(m: Block, e21: f64, e22: f64) -> Block
     ensures { result ≡ second m e21 e22 }
 {
-    Block {
-        e11: m.e11,
-        e12: m.e12,
-        e21,
-        e22,
-    }
+    Block { e21, e22, ..m }
 }
 
 // Both rows replaced: s = given and c = given.
 fn row_of_both(slope: f64, curvature: f64) -> Row
     ensures { result ≡ both_given slope curvature }
 {
-    let a = Block {
-        e11: 1.0,
-        e12: 0.0,
-        e21: 0.0,
-        e22: 1.0,
-    };
-    let l = ZEROS;
-    let r = ZEROS;
-    let k = Pair {
-        s: slope,
-        c: curvature,
-    };
-    Row { a, l, r, k }
+    Row {
+        a: Block {
+            e11: 1.0,
+            e22: 1.0,
+            ..ZEROS
+        },
+        l: ZEROS,
+        r: ZEROS,
+        k: Pair {
+            s: slope,
+            c: curvature,
+        },
+    }
 }
 
 // The third-derivative row replaced: c = given.
 fn row_of_curvature(row: Row, curvature: f64) -> Row
     ensures { result ≡ curvature_given row curvature }
 {
-    let a = with_second(row.a, 0.0, 1.0);
-    let l = with_second(row.l, 0.0, 0.0);
-    let r = with_second(row.r, 0.0, 0.0);
-    let k = Pair {
-        s: row.k.s,
-        c: curvature,
-    };
-    Row { a, l, r, k }
+    Row {
+        a: with_second(row.a, 0.0, 1.0),
+        l: with_second(row.l, 0.0, 0.0),
+        r: with_second(row.r, 0.0, 0.0),
+        k: Pair {
+            c: curvature,
+            ..row.k
+        },
+    }
 }
 
 fn ended(row: Row, end: End) -> Row
@@ -183,6 +246,7 @@ fn ended(row: Row, end: End) -> Row
 }
 
 // The equations of a knot between two gaps; an inner knot passes a free end, which keeps both rows.
+#[tactic(auto, unfolding(crate::specs::Equations::equations))]
 pub fn equations_of(p: Gap, g: Gap, end: End) -> Row
     ensures { result ≡ equations p g end }
 {

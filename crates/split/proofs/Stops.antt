@@ -1,16 +1,19 @@
 -- Laws of `stop`: as a loop counts up to it, and how it cuts the first part off a text.
 -- Assumes nothing.
 use Prim.Native.Nat.{ℕ, zero, suc, ◌+◌, ◌-◌, ◌≤◌, ◌<◌}
-use mathlib.Core.Path.{◌≡◌, refl, ◌∙◌}
+use mathlib.Core.Path.{◌≡◌, refl}
 use mathlib.Core.Bool.{Bool, true, false, cond}
 use mathlib.Core.List.{List, [], ◌∷◌}
 use native.Mathlib.Omega.{arith}
-use native.Mathlib.Numerals.{add-one}
 use native.Mathlib.Decide.{dec_le}
-use lib.Dec.{leb, leb-suc-suc}
+use lib.Dec.{leb, ltb, leb-suc-suc}
 use lib.ListN.{length, take, drop, get_or, length-drop}
-use lib.Seq.{drop-cons, drop-drop, drop-length, length-take-le}
-use borrow.Author.Tests.{le-leb, lt-leb}
+use lib.Seq.{drop-drop, length-take-le}
+use borrow.Author.Tests.{le-leb, lt-leb, ltb-false}
+use Rattle.std.specs.List.{position, position_or_len}
+use Rattle.std.specs.Option.{unwrap_or}
+use Rattle.std.proofs.Common.{Some, None}
+use Rattle.std.proofs.lemmas.List.Recursion.{is_position_or_len}
 use Rattle.split.specs.Parts.{marks, stop, until, split, onto}
 use Rattle.split.specs.declared.Mark.{Mark}
 
@@ -23,6 +26,18 @@ module _ (m : Mark) where
       go : (t : Bool) → stop m s ≤ length s → cond t 0 (suc (stop m s)) ≤ suc (length s)
       go true h = omega arith
       go false h = omega arith
+
+  -- the library's words for it
+  stop_position : (s : List ℕ) → stop m s ≡ position_or_len (marks m) s
+  unfolding stop
+  stop_position s = is_position_or_len (stop m) (marks m) refl (λ b s. let e : 1 + stop m s ≡ suc (stop m s) = omega arith in rw e) s
+
+  pub position_stop : (s : List ℕ) → unwrap_or (position (marks m) s) (length s) ≡ stop m s
+  position_stop s = rw (← stop_position s) (go (ltb (stop m s) (length s)) refl)
+    where
+      go : (t : Bool) → ltb (stop m s) (length s) ≡ t → unwrap_or (cond t (Some (stop m s)) None) (length s) ≡ stop m s
+      go true e = refl
+      go false e = omega (arith, stop_le s, ltb-false (stop m s) (length s) e)
 
   pub length_until : (s : List ℕ) → length (until m s) ≡ stop m s
   length_until s = length-take-le (stop m s) s (stop_le s)
@@ -38,36 +53,6 @@ module _ (m : Mark) where
       go true e i h f = absurd (omega arith)
       go false e zero h f = e
       go false e (suc i) h f = f i (omega arith)
-
-  -- ---- the loop
-
-  pub record Passed (s : List ℕ) (i : ℕ) : Type 0 where
-    pub within : i ≤ length s
-    pub decides : stop m s ≡ i + stop m (drop i s)
-
-  pub passed_none : (s : List ℕ) → Passed s 0
-  passed_none s = record { within = omega arith; decides = omega arith }
-
-  module _ {s : List ℕ} {i : ℕ} (p : Passed s i) where
-    pub passed_all : length s ≤ i → i ≡ stop m s
-    unfolding stop
-    passed_all h =
-        let e : i ≡ length s = omega (arith, p.within) in
-        let d : stop m (drop i s) ≡ 0 = rw (e, drop-length) in
-        omega (arith, p.decides)
-
-    module _ (h : i < length s) where
-      next : stop m (drop i s) ≡ cond (marks m (get_or s i 0)) 0 (suc (stop m (drop (suc i) s)))
-      unfolding stop
-      next = rw (drop-cons s i 0 h)
-
-      pub passed_here : marks m (get_or s i 0) ≡ true → i ≡ stop m s
-      passed_here e = let d : stop m (drop i s) ≡ 0 = next ∙ rw e in omega (arith, p.decides)
-
-      pub passed_more : marks m (get_or s i 0) ≡ false → Passed s (i + 1)
-      passed_more e =
-          let d : stop m (drop i s) ≡ suc (stop m (drop (suc i) s)) = next ∙ rw e in
-          record { within = omega arith; decides = rw add-one (omega (arith, p.decides)) }
 
   -- ---- parts
 

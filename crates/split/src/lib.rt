@@ -1,7 +1,7 @@
 // The parts of a text: its lines, what of a line is no comment, and its words. Any bytes are answered.
 #![tactic(auto)]
 
-ghost use Rattle.std.specs.Prelude.{◌≡◌, ◌≤◌, [], length, drop, get_or};
+ghost use Rattle.std.specs.Prelude.{◌≡◌, ◌≤◌, [], length, drop, get_or, position};
 ghost use Rattle.split.specs.Parts.{marks, stop, until, past, lines};
 
 // What a reader looks for.
@@ -15,15 +15,14 @@ pub enum Mark {
     Hidden,
 }
 
+#[tactic(auto, unfolding(crate::specs::Parts::marks))]
 fn blank(byte: u8) -> bool
     ensures { result ≡ marks Mark.Blank byte }
 {
-    if byte == b' ' {
-        return true;
-    }
-    byte == b'\t' || byte == b'\r'
+    matches!(byte, b' ' | b'\t' | b'\r')
 }
 
+#[tactic(auto, unfolding(crate::specs::Parts::marks))]
 fn marks(mark: Mark, byte: u8) -> bool
     ensures { result ≡ marks mark byte }
 {
@@ -32,23 +31,22 @@ fn marks(mark: Mark, byte: u8) -> bool
         Mark::Note => byte == b'#',
         Mark::Blank => blank(byte),
         Mark::Word => !blank(byte),
-        Mark::NoDigit => byte < b'0' || b'9' < byte,
-        Mark::Hidden => byte < b'!' || b'~' < byte,
+        Mark::NoDigit => !byte.is_ascii_digit(),
+        Mark::Hidden => !byte.is_ascii_graphic(),
     }
+}
+
+fn first_marked(mark: Mark, text: &[u8]) -> Option<usize>
+    ensures { result ≡ position (marks mark) text.now }
+{
+    text.iter().position(|byte| marks(mark, *byte))
 }
 
 // How many bytes stand before the first that is marked.
 pub fn stop(mark: Mark, text: &[u8]) -> usize
     ensures { result ≡ stop mark text.now }
 {
-    let mut i: usize = 0;
-    while i < text.len() {
-        if marks(mark, text[i]) {
-            return i;
-        }
-        i += 1;
-    }
-    i
+    first_marked(mark, text).unwrap_or(text.len())
 }
 
 // The bytes before the first that is marked.
@@ -67,6 +65,7 @@ pub fn from(text: &[u8], at: usize) -> &[u8]
 }
 
 // The bytes from the first that is marked.
+#[tactic(auto, using(crate::proofs::Stops::stop_le))]
 pub fn past(mark: Mark, text: &[u8]) -> &[u8]
     ensures { result.now ≡ past mark text.now }
 {
@@ -79,14 +78,12 @@ pub fn line_at(text: &[u8], n: u32) -> &[u8]
     ensures { result.now ≡ get_or (lines text.now) n [] }
 {
     let mut at: usize = 0;
-    let mut i: u32 = 0;
-    while i < n {
+    for _ in 0..n {
         let end = at + until(Mark::LineEnd, from(text, at)).len();
         if end == text.len() {
             return from(text, end);
         }
         at = end + 1;
-        i += 1;
     }
     until(Mark::LineEnd, from(text, at))
 }

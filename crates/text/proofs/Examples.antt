@@ -8,11 +8,15 @@ use lib.IntN.{pos, negsuc}
 use lib.ListN.{take}
 use Rattle.decimal.specs.Decimal.{spelled, value_from}
 use Rattle.split.specs.Parts.{marks, stop, split, some, words}
-use Rattle.numeral.specs.Number.{not_whole, leading_zero, too_large, starts, at_most, natural, above, below, signed_number, narrowed, ordinate}
+use Rattle.numeral.specs.Number.{starts, at_most, natural, above, below, signed_number, narrowed, ordinate}
+use Rattle.numeral.specs.declared.Wrong.{Wrong}
+use Rattle.std.specs.Prelude.{Some, None, Result, Ok, Err}
 use Rattle.holes.specs.Hole.{hole}
-use Rattle.text.specs.Sheet.{too_few, too_many, is_hole, nameless, with_ordinate, behind, knot_by, with_slope, line_by, line, bare_line, blamed_of, blamed_third, blamed_by, blamed, named, named_by, log_name, refused, with_knot, without_slope, sloping, taken, goes_on, read, no_slope, slopeless, odd_slope, unmended, sheet}
+use Rattle.text.specs.Sheet.{with_ordinate, behind, knot_by, with_slope, line_by, line, bare_line, blamed_of, blamed_third, blamed_by, blamed, named, named_by, log_name, no_knots, with_knot, without_slope, sloping, taken, blame, blaming, line_taken, then, read, sheet}
+use Rattle.text.specs.declared.Blame.{Blame}
+use Rattle.text.specs.declared.Sheet.{Sheet}
 use Rattle.text.specs.declared.Line.{Line}
-use Rattle.text.specs.declared.Line.TheVariants.{Empty, Knot, Sloped, Hole, Log, SlopedLog, Refused}
+use Rattle.text.specs.declared.Line.TheVariants.{Empty, Knot, Hole, Log}
 
 abbrev written : List String → List ℕ
 written [] = []
@@ -21,14 +25,19 @@ written (s ∷ ss) = spelled s ++ (10 ∷ written ss)
 abbrev night : List ℕ
 night = written ("# night" ∷ "0 500" ∷ "" ∷ "  8   -40 # the vents open" ∷ []) ++ spelled "16 0"
 
-abbrev a_line : String → Line
+abbrev a_line : String → Result Line Wrong
 a_line s = line (spelled s)
 
+-- the sheet, where nothing is wrong
+abbrev of : Result Sheet Blame → Sheet
+of (Ok a) = a
+of (Err b) = no_knots
+
 pub sheets :
-    ((sheet false night).wrong ≡ 0) × ((sheet false night).knots ≡ 3) × (take 4 (sheet false night).minutes ≡ 0 ∷ 8 ∷ 16 ∷ 0 ∷ [])
-    × (take 4 (sheet false night).ordinates ≡ pos 500 ∷ negsuc 39 ∷ pos 0 ∷ pos 0 ∷ []) × (take 4 (sheet false night).lines ≡ 2 ∷ 4 ∷ 5 ∷ 0 ∷ [])
-    × (sheet false (written ("0 0" ∷ "# 1 2 3" ∷ "050 3" ∷ [])) ≡ refused leading_zero 3) × (sheet false [] ≡ refused 0 0)
-unfolding spelled value_from marks stop split some words starts at_most natural above below signed_number narrowed ordinate with_ordinate behind knot_by with_slope line_by line refused with_knot without_slope sloping taken goes_on read sheet
+    (sheet false night ≡ Ok (of (sheet false night))) × ((of (sheet false night)).knots ≡ 3) × (take 4 (of (sheet false night)).minutes ≡ 0 ∷ 8 ∷ 16 ∷ 0 ∷ [])
+    × (take 4 (of (sheet false night)).ordinates ≡ pos 500 ∷ negsuc 39 ∷ pos 0 ∷ pos 0 ∷ []) × (take 4 (of (sheet false night)).lines ≡ 2 ∷ 4 ∷ 5 ∷ 0 ∷ [])
+    × (sheet false (written ("0 0" ∷ "# 1 2 3" ∷ "050 3" ∷ [])) ≡ Err (blame Wrong.LeadingZero 3)) × (sheet false [] ≡ Ok no_knots)
+unfolding spelled value_from marks stop split some words starts at_most natural above below signed_number narrowed ordinate with_ordinate behind knot_by with_slope line_by line no_knots with_knot without_slope sloping taken blaming line_taken then read sheet
 sheets = (refl, refl, refl, refl, refl, refl, refl)
 
 abbrev broken : List ℕ
@@ -36,18 +45,18 @@ broken = written ("0 500" ∷ "8 - # dead" ∷ "16 0" ∷ [])
 
 -- a hole is wrong where the sheet is not to be mended, and the word for which it is refused is the minus; where it is, the hole has the mark, as the mark itself has that somebody types
 pub holes :
-    (sheet false broken ≡ refused is_hole 2) × (blamed broken 2 ≡ spelled "-") × ((sheet true broken).wrong ≡ 0) × ((sheet true broken).knots ≡ 3)
-    × (take 4 (sheet true broken).ordinates ≡ pos 500 ∷ hole ∷ pos 0 ∷ pos 0 ∷ []) × (take 4 (sheet true broken).lines ≡ 1 ∷ 2 ∷ 3 ∷ 0 ∷ [])
+    (sheet false broken ≡ Err (blame Wrong.Hole 2)) × (blamed broken 2 ≡ spelled "-") × (sheet true broken ≡ Ok (of (sheet true broken))) × ((of (sheet true broken)).knots ≡ 3)
+    × (take 4 (of (sheet true broken)).ordinates ≡ pos 500 ∷ hole ∷ pos 0 ∷ pos 0 ∷ []) × (take 4 (of (sheet true broken)).lines ≡ 1 ∷ 2 ∷ 3 ∷ 0 ∷ [])
     × (sheet true (written ("0 -32768" ∷ [])) ≡ sheet true (written ("0 -" ∷ []))) × (sheet true night ≡ sheet false night)
-unfolding spelled value_from marks stop split some words starts at_most natural above below signed_number narrowed ordinate with_ordinate behind knot_by with_slope line_by line bare_line blamed_of blamed_third blamed_by refused with_knot without_slope sloping taken goes_on read sheet
+unfolding spelled value_from marks stop split some words starts at_most natural above below signed_number narrowed ordinate with_ordinate behind knot_by with_slope line_by line bare_line blamed_of blamed_third blamed_by no_knots with_knot without_slope sloping taken blaming line_taken then read sheet
 holes = (refl, refl, refl, refl, refl, refl, refl, refl)
 
 pub lines :
-    (a_line "5.5 3" ≡ Refused not_whole) × (a_line "0x10 3" ≡ Refused not_whole) × (a_line "1e3 3" ≡ Refused not_whole) × (a_line "-1 3" ≡ Refused not_whole)
-    × (a_line "1 -" ≡ Hole 1) × (a_line "- 1" ≡ Refused not_whole) × (a_line "1 --" ≡ Refused not_whole) × (a_line "1 - -" ≡ Refused too_many) × (a_line "1 -0" ≡ Refused leading_zero) × (a_line "1 00" ≡ Refused leading_zero) × (a_line "0 -32768" ≡ Knot 0 (negsuc 32767))
-    × (a_line "0 32768" ≡ Refused too_large) × (a_line "65535 0" ≡ Knot 65535 (pos 0)) × (a_line "65536 0" ≡ Refused too_large)
-    × (a_line "18446744073709551616 0" ≡ Refused too_large) × (a_line "7" ≡ Refused too_few) × (a_line "1 2 3" ≡ Sloped 1 (pos 2) (pos 3)) × (a_line "1 2 3 4" ≡ Refused too_many)
-    × (line (spelled "7" ++ (9 ∷ spelled "8") ++ (13 ∷ [])) ≡ Knot 7 (pos 8)) × (a_line " " ≡ Empty)
+    (a_line "5.5 3" ≡ Err Wrong.NotWhole) × (a_line "0x10 3" ≡ Err Wrong.NotWhole) × (a_line "1e3 3" ≡ Err Wrong.NotWhole) × (a_line "-1 3" ≡ Err Wrong.NotWhole)
+    × (a_line "1 -" ≡ Ok (Hole 1)) × (a_line "- 1" ≡ Err Wrong.NotWhole) × (a_line "1 --" ≡ Err Wrong.NotWhole) × (a_line "1 - -" ≡ Err Wrong.TooMany) × (a_line "1 -0" ≡ Err Wrong.LeadingZero) × (a_line "1 00" ≡ Err Wrong.LeadingZero) × (a_line "0 -32768" ≡ Ok (Knot 0 (negsuc 32767) None))
+    × (a_line "0 32768" ≡ Err Wrong.TooLarge) × (a_line "65535 0" ≡ Ok (Knot 65535 (pos 0) None)) × (a_line "65536 0" ≡ Err Wrong.TooLarge)
+    × (a_line "18446744073709551616 0" ≡ Err Wrong.TooLarge) × (a_line "7" ≡ Err Wrong.TooFew) × (a_line "1 2 3" ≡ Ok (Knot 1 (pos 2) (Some (pos 3)))) × (a_line "1 2 3 4" ≡ Err Wrong.TooMany)
+    × (line (spelled "7" ++ (9 ∷ spelled "8") ++ (13 ∷ [])) ≡ Ok (Knot 7 (pos 8) None)) × (a_line " " ≡ Ok Empty)
 unfolding spelled value_from marks stop split some words starts at_most natural above below signed_number narrowed ordinate with_ordinate behind knot_by with_slope line_by line
 lines = (refl, refl, refl, refl, refl, refl, refl, refl, refl, refl, refl, refl, refl, refl, refl, refl, refl, refl, refl, refl)
 
@@ -64,16 +73,16 @@ with_log = written ("0 500" ∷ "8 @hour.log # from minute 8" ∷ "16 0" ∷ [])
 
 -- a log is taken whether or not the sheet is to be mended, at its first minute; its name is told by its line
 pub logs :
-    ((sheet false with_log).wrong ≡ 0) × ((sheet false with_log).knots ≡ 3) × (take 4 (sheet false with_log).minutes ≡ 0 ∷ 8 ∷ 16 ∷ 0 ∷ [])
-    × (take 4 (sheet false with_log).ordinates ≡ pos 500 ∷ pos 0 ∷ pos 0 ∷ pos 0 ∷ []) × (take 4 (sheet false with_log).logs ≡ false ∷ true ∷ false ∷ false ∷ [])
+    (sheet false with_log ≡ Ok (of (sheet false with_log))) × ((of (sheet false with_log)).knots ≡ 3) × (take 4 (of (sheet false with_log)).minutes ≡ 0 ∷ 8 ∷ 16 ∷ 0 ∷ [])
+    × (take 4 (of (sheet false with_log)).ordinates ≡ pos 500 ∷ pos 0 ∷ pos 0 ∷ pos 0 ∷ []) × (take 4 (of (sheet false with_log)).logs ≡ false ∷ true ∷ false ∷ false ∷ [])
     × (sheet true with_log ≡ sheet false with_log) × (log_name with_log 2 ≡ spelled "hour.log") × (log_name with_log 1 ≡ []) × (log_name with_log 0 ≡ []) × (log_name with_log 9 ≡ [])
-unfolding spelled value_from marks stop split some words starts at_most natural above below signed_number narrowed ordinate with_ordinate behind knot_by with_slope line_by line bare_line named named_by refused with_knot without_slope sloping taken goes_on read sheet
+unfolding spelled value_from marks stop split some words starts at_most natural above below signed_number narrowed ordinate with_ordinate behind knot_by with_slope line_by line bare_line named named_by no_knots with_knot without_slope sloping taken blaming line_taken then read sheet
 logs = (refl, refl, refl, refl, refl, refl, refl, refl, refl, refl)
 
 -- what is wrong with a log's line, the minute first, and the word to blame; a '@' in another place is part of a word
 pub log_lines :
-    (a_line "8 @a" ≡ Log 8) × (a_line "8 @@" ≡ Log 8) × (a_line "65535 @0" ≡ Log 65535) × (a_line "8 @" ≡ Refused nameless) × (a_line "8 @#a" ≡ Refused nameless) × (a_line "8 @ a" ≡ Refused nameless) × (a_line "@a" ≡ Refused too_few)
-    × (a_line "65536 @a" ≡ Refused too_large) × (a_line "x @" ≡ Refused not_whole) × (a_line "08 @" ≡ Refused leading_zero) × (a_line "8 a@" ≡ Refused not_whole) × (a_line "@8 1" ≡ Refused not_whole)
+    (a_line "8 @a" ≡ Ok (Log 8 None)) × (a_line "8 @@" ≡ Ok (Log 8 None)) × (a_line "65535 @0" ≡ Ok (Log 65535 None)) × (a_line "8 @" ≡ Err Wrong.Nameless) × (a_line "8 @#a" ≡ Err Wrong.Nameless) × (a_line "8 @ a" ≡ Err Wrong.Nameless) × (a_line "@a" ≡ Err Wrong.TooFew)
+    × (a_line "65536 @a" ≡ Err Wrong.TooLarge) × (a_line "x @" ≡ Err Wrong.NotWhole) × (a_line "08 @" ≡ Err Wrong.LeadingZero) × (a_line "8 a@" ≡ Err Wrong.NotWhole) × (a_line "@8 1" ≡ Err Wrong.NotWhole)
 unfolding spelled value_from marks stop split some words starts at_most natural above below signed_number narrowed ordinate with_ordinate behind knot_by with_slope line_by line
 log_lines = (refl, refl, refl, refl, refl, refl, refl, refl, refl, refl, refl, refl)
 
@@ -87,18 +96,18 @@ measured = written ("0 500 -819200" ∷ "8 @hour.log 230400" ∷ "" ∷ "16 500 
 -- slopes on every line, a log's too; a hole, a knot without one, and one where the others have none are
 -- wrong, and so is every slope where the sheet is to be mended
 pub slopes :
-    ((sheet false measured).wrong ≡ 0) × ((sheet false measured).knots ≡ 3) × ((sheet false measured).sloped ≡ true) × ((sheet false night).sloped ≡ false)
-    × (take 4 (sheet false measured).slopes ≡ negsuc 819199 ∷ pos 230400 ∷ pos 0 ∷ pos 0 ∷ []) × (take 4 (sheet false measured).logs ≡ false ∷ true ∷ false ∷ false ∷ [])
-    × (sheet false (written ("0 1 5" ∷ "8 2" ∷ [])) ≡ refused slopeless 2) × (sheet false (written ("0 1 5" ∷ "8 @a" ∷ [])) ≡ refused slopeless 2)
-    × (sheet false (written ("0 1" ∷ "8 2 0" ∷ [])) ≡ refused odd_slope 2) × (sheet false (written ("0 @a" ∷ "" ∷ "8 @a 0" ∷ [])) ≡ refused odd_slope 3)
-    × (sheet true measured ≡ refused unmended 1) × (sheet true (written ("0 1" ∷ "8 2 0" ∷ [])) ≡ refused unmended 2) × (sheet false (written ("0 1 5" ∷ "8 -" ∷ [])) ≡ refused is_hole 2)
-unfolding spelled value_from marks stop split some words starts at_most natural above below signed_number narrowed ordinate with_ordinate behind knot_by with_slope line_by line refused with_knot without_slope sloping taken goes_on read sheet
+    (sheet false measured ≡ Ok (of (sheet false measured))) × ((of (sheet false measured)).knots ≡ 3) × ((of (sheet false measured)).sloped ≡ true) × ((of (sheet false night)).sloped ≡ false)
+    × (take 4 (of (sheet false measured)).slopes ≡ negsuc 819199 ∷ pos 230400 ∷ pos 0 ∷ pos 0 ∷ []) × (take 4 (of (sheet false measured)).logs ≡ false ∷ true ∷ false ∷ false ∷ [])
+    × (sheet false (written ("0 1 5" ∷ "8 2" ∷ [])) ≡ Err (blame Wrong.Slopeless 2)) × (sheet false (written ("0 1 5" ∷ "8 @a" ∷ [])) ≡ Err (blame Wrong.Slopeless 2))
+    × (sheet false (written ("0 1" ∷ "8 2 0" ∷ [])) ≡ Err (blame Wrong.OddSlope 2)) × (sheet false (written ("0 @a" ∷ "" ∷ "8 @a 0" ∷ [])) ≡ Err (blame Wrong.OddSlope 3))
+    × (sheet true measured ≡ Err (blame Wrong.Unmended 1)) × (sheet true (written ("0 1" ∷ "8 2 0" ∷ [])) ≡ Err (blame Wrong.Unmended 2)) × (sheet false (written ("0 1 5" ∷ "8 -" ∷ [])) ≡ Err (blame Wrong.Hole 2))
+unfolding spelled value_from marks stop split some words starts at_most natural above below signed_number narrowed ordinate with_ordinate behind knot_by with_slope line_by line no_knots with_knot without_slope sloping taken blaming line_taken then read sheet
 slopes = (refl, refl, refl, refl, refl, refl, refl, refl, refl, refl, refl, refl, refl)
 
 pub slope_lines :
-    (a_line "1 2 -3" ≡ Sloped 1 (pos 2) (negsuc 2)) × (a_line "1 @a 3" ≡ SlopedLog 1 (pos 3)) × (a_line "1 2 2147483647" ≡ Sloped 1 (pos 2) (pos 2147483647)) × (a_line "1 2 -2147483648" ≡ Sloped 1 (pos 2) (negsuc 2147483647))
-    × (a_line "1 2 2147483648" ≡ Refused no_slope) × (a_line "1 2 x" ≡ Refused no_slope) × (a_line "1 2 -" ≡ Refused no_slope) × (a_line "1 2 03" ≡ Refused no_slope) × (a_line "1 2 -0" ≡ Refused no_slope) × (a_line "1 @a b" ≡ Refused no_slope)
-    × (a_line "1 - 3" ≡ Refused too_many) × (a_line "x 2 y" ≡ Refused not_whole) × (a_line "1 05 y" ≡ Refused leading_zero)
+    (a_line "1 2 -3" ≡ Ok (Knot 1 (pos 2) (Some (negsuc 2)))) × (a_line "1 @a 3" ≡ Ok (Log 1 (Some (pos 3)))) × (a_line "1 2 2147483647" ≡ Ok (Knot 1 (pos 2) (Some (pos 2147483647)))) × (a_line "1 2 -2147483648" ≡ Ok (Knot 1 (pos 2) (Some (negsuc 2147483647))))
+    × (a_line "1 2 2147483648" ≡ Err Wrong.NoSlope) × (a_line "1 2 x" ≡ Err Wrong.NoSlope) × (a_line "1 2 -" ≡ Err Wrong.NoSlope) × (a_line "1 2 03" ≡ Err Wrong.NoSlope) × (a_line "1 2 -0" ≡ Err Wrong.NoSlope) × (a_line "1 @a b" ≡ Err Wrong.NoSlope)
+    × (a_line "1 - 3" ≡ Err Wrong.TooMany) × (a_line "x 2 y" ≡ Err Wrong.NotWhole) × (a_line "1 05 y" ≡ Err Wrong.LeadingZero)
 unfolding spelled value_from marks stop split some words starts at_most natural above below signed_number narrowed ordinate with_ordinate behind knot_by with_slope line_by line
 slope_lines = (refl, refl, refl, refl, refl, refl, refl, refl, refl, refl, refl, refl, refl)
 

@@ -5,5 +5,4 @@ pub mod Readings
 pub mod Room
 pub mod Written
 pub mod Logs
-pub mod Slopes
 pub mod Examples

@@ -7,14 +7,16 @@ use native.Mathlib.Omega.{arith}
 use lib.ListN.{length, get_or}
 use Rattle.split.specs.Parts.{until, past, lines, words, bare}
 use Rattle.numeral.specs.Number.{signed_number}
-use Rattle.text.specs.Sheet.{too_few, too_many, knot, with_slope, line_by, bare_line}
+use Rattle.text.specs.Sheet.{knot, with_slope, line_by, bare_line}
 use Rattle.split.specs.declared.Mark.TheVariants.{Blank, Word}
-use Rattle.text.specs.declared.Line.TheVariants.{Empty, Refused}
+use Rattle.std.specs.Prelude.{Ok, Err}
+use Rattle.numeral.specs.declared.Wrong.{Wrong}
+use Rattle.text.specs.declared.Line.TheVariants.{Empty}
 use Rattle.split.proofs.Words.{no_word, next_word}
 
 -- f is from the first word on, g from the second, h from the third, k from the fourth
 module _ (s : List ℕ) {f : List ℕ} (first : f ≡ past Word s) where
-  pub no_words : length f ≡ 0 → Empty ≡ line_by (words s)
+  pub no_words : length f ≡ 0 → Ok Empty ≡ line_by (words s)
   unfolding line_by
   no_words e = rw (no_word s (rw first at e))
 
@@ -22,7 +24,7 @@ module _ (s : List ℕ) {f : List ℕ} (first : f ≡ past Word s) where
     pub one : words s ≡ until Blank f ∷ words (past Blank f)
     one = let l : 0 < length f = omega arith in rw first (next_word s (rw first at l))
 
-    pub one_word : length g ≡ 0 → Refused too_few ≡ line_by (words s)
+    pub one_word : length g ≡ 0 → Err Wrong.TooFew ≡ line_by (words s)
     unfolding line_by
     one_word e = rw (one, no_word (past Blank f) (rw second at e))
 
@@ -50,7 +52,7 @@ module _ (s : List ℕ) {f : List ℕ} (first : f ≡ past Word s) where
         pub four : 0 < length k → words s ≡ until Blank f ∷ until Blank g ∷ until Blank h ∷ until Blank k ∷ words (past Blank k)
         four l = three ∙ ap (λ ws. until Blank f ∷ until Blank g ∷ until Blank h ∷ ws) (rw fourth (next_word (past Blank h) (rw fourth at l)))
 
-        pub four_words : 0 < length k → Refused too_many ≡ line_by (words s)
+        pub four_words : 0 < length k → Err Wrong.TooMany ≡ line_by (words s)
         unfolding line_by
         four_words l = rw (four l)
 

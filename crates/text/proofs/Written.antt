@@ -19,19 +19,15 @@ use Rattle.split.specs.declared.Mark.TheVariants.{Note, Blank, NoDigit}
 use Rattle.split.proofs.Unmarked.{stop_behind, cut, uncut}
 use Rattle.split.proofs.Words.{kept}
 use Rattle.numeral.specs.Number.{starts, natural, signed_number, ordinate}
-use Rattle.numeral.specs.declared.Number.{Number}
-use Rattle.numeral.specs.declared.Number.TheVariants.{Whole, Bad}
-use Rattle.numeral.specs.declared.Signed.{Signed}
-use Rattle.numeral.specs.declared.Signed.TheVariants.{Told, Untold}
-use Rattle.numeral.specs.declared.Ordinate.{Ordinate}
-use Rattle.numeral.specs.declared.Ordinate.TheVariants.{Given, Hole as Missing, Wrong}
 use Rattle.numeral.proofs.OneSpelling.{one_spelling, one_signed, one_ordinate, one_hole}
 use Rattle.numeral.proofs.Numbers.{starts_some}
 use Rattle.numeral.proofs.Spelled.{NoDigits, digits_unmarked, no_no_digit, some_digit, decimal_read, ordinate_read}
 use Rattle.curve.specs.Card.{latest}
-use Rattle.text.specs.Sheet.{nameless, at_sign, with_ordinate, behind, knot_by, knot, with_slope, line_by, line, named, named_by}
+use Rattle.std.specs.Prelude.{Option, Some, None, Result, Ok, Err}
+use Rattle.numeral.specs.declared.Wrong.{Wrong}
+use Rattle.text.specs.Sheet.{at_sign, with_ordinate, behind, knot_by, knot, with_slope, line_by, line, named, named_by}
 use Rattle.text.specs.declared.Line.{Line}
-use Rattle.text.specs.declared.Line.TheVariants.{Empty, Knot, Sloped, Hole, Log, SlopedLog, Refused}
+use Rattle.text.specs.declared.Line.TheVariants.{Empty, Knot, Hole, Log}
 
 no_note : NoDigits Note
 unfolding marks
@@ -84,36 +80,36 @@ no_at_sign (pos n) = unmarked NoDigit (decimal n) at_sign (digits_unmarked NoDig
 no_at_sign (negsuc n) = refl
 
 -- a knot as the listing writes its first two numbers
-pub line_read : (x : ℕ) (y : ℤ) → x ≤ latest → SFits w16 y → line (written x y) ≡ Knot x y
+pub line_read : (x : ℕ) (y : ℤ) → x ≤ latest → SFits w16 y → line (written x y) ≡ Ok (Knot x y None)
 unfolding with_ordinate behind knot_by line_by line
 line_read x y l f = rw (no_comment x y, its_words x y, decimal_read x (omega arith) latest l, no_at_sign y, ordinate_read y f)
 
 -- ---- the other way
 
 -- the words of a line by what it is
-abbrev Two : Line → List (List ℕ) → Type 0
-Two Empty ws = Unit {0}
-Two (Refused wrong) ws = Unit {0}
-Two (Knot n z) ws = ws ≡ decimal n ∷ signed z ∷ []
-Two (Sloped n z m) ws = ws ≡ decimal n ∷ signed z ∷ signed m ∷ []
-Two (SlopedLog n m) ws = (ws ≡ decimal n ∷ (at_sign ∷ named_by ws) ∷ signed m ∷ []) × (0 < length (named_by ws))
-Two (Hole n) ws = ws ≡ decimal n ∷ (minus ∷ []) ∷ []
-Two (Log n) ws = (ws ≡ decimal n ∷ (at_sign ∷ named_by ws) ∷ []) × (0 < length (named_by ws))
+abbrev Two : Result Line Wrong → List (List ℕ) → Type 0
+Two (Err wrong) ws = Unit {0}
+Two (Ok Empty) ws = Unit {0}
+Two (Ok (Knot n z None)) ws = ws ≡ decimal n ∷ signed z ∷ []
+Two (Ok (Knot n z (Some m))) ws = ws ≡ decimal n ∷ signed z ∷ signed m ∷ []
+Two (Ok (Log n (Some m))) ws = (ws ≡ decimal n ∷ (at_sign ∷ named_by ws) ∷ signed m ∷ []) × (0 < length (named_by ws))
+Two (Ok (Hole n)) ws = ws ≡ decimal n ∷ (minus ∷ []) ∷ []
+Two (Ok (Log n None)) ws = (ws ≡ decimal n ∷ (at_sign ∷ named_by ws) ∷ []) × (0 < length (named_by ws))
 
 -- behind a minute
 module _ (n : ℕ) (w : List ℕ) where
-  two_with_ordinate : (y : Ordinate) → ordinate w ≡ y → Two (with_ordinate n y) (decimal n ∷ w ∷ [])
+  two_with_ordinate : (y : Result (Option ℤ) Wrong) → ordinate w ≡ y → Two (with_ordinate n y) (decimal n ∷ w ∷ [])
   unfolding with_ordinate
-  two_with_ordinate (Wrong wrong) e = tt
-  two_with_ordinate Missing e = rw (one_hole w e)
-  two_with_ordinate (Given z) e = rw (one_ordinate w e)
+  two_with_ordinate (Err wrong) e = tt
+  two_with_ordinate (Ok None) e = rw (one_hole w e)
+  two_with_ordinate (Ok (Some z)) e = rw (one_ordinate w e)
 
-two_named : (n : ℕ) (w : List ℕ) → starts at_sign w ≡ true → Two (cond (eqb (length w) 1) (Refused nameless) (Log n)) (decimal n ∷ w ∷ [])
+two_named : (n : ℕ) (w : List ℕ) → starts at_sign w ≡ true → Two (cond (eqb (length w) 1) (Err Wrong.Nameless) (Ok (Log n None))) (decimal n ∷ w ∷ [])
 unfolding starts named named_by
 two_named n [] e = absurd (omega (arith, starts_some at_sign [] e))
 two_named n (b ∷ w) e = go (eqb (suc (length w)) 1) refl
   where
-    go : (bare : Bool) → eqb (suc (length w)) 1 ≡ bare → Two (cond bare (Refused nameless) (Log n)) (decimal n ∷ (b ∷ w) ∷ [])
+    go : (bare : Bool) → eqb (suc (length w)) 1 ≡ bare → Two (cond bare (Err Wrong.Nameless) (Ok (Log n None))) (decimal n ∷ (b ∷ w) ∷ [])
     go true s = tt
     go false s = rw (e, eqb-true b at_sign e) (refl, omega (arith, eqb-false (suc (length w)) 1 s))
 
@@ -121,7 +117,7 @@ two_behind : (n : ℕ) (w : List ℕ) → Two (behind n w) (decimal n ∷ w ∷ 
 unfolding behind
 two_behind n w = go (starts at_sign w) refl
   where
-    go : (named : Bool) → starts at_sign w ≡ named → Two (cond named (cond (eqb (length w) 1) (Refused nameless) (Log n)) (with_ordinate n (ordinate w))) (decimal n ∷ w ∷ [])
+    go : (named : Bool) → starts at_sign w ≡ named → Two (cond named (cond (eqb (length w) 1) (Err Wrong.Nameless) (Ok (Log n None))) (with_ordinate n (ordinate w))) (decimal n ∷ w ∷ [])
     go true e = two_named n w e
     go false e = two_with_ordinate n w (ordinate w) refl
 
@@ -129,23 +125,23 @@ two_of_knot : (x w : List ℕ) → Two (knot x w) (x ∷ w ∷ [])
 unfolding knot_by
 two_of_knot x w = go (natural latest x) refl
   where
-    go : (a : Number) → natural latest x ≡ a → Two (knot_by a w) (x ∷ w ∷ [])
-    go (Bad wrong) d = tt
-    go (Whole n) d = rw (one_spelling latest x (lit< tt) d) (two_behind n w)
+    go : (a : Result ℕ Wrong) → natural latest x ≡ a → Two (knot_by a w) (x ∷ w ∷ [])
+    go (Err wrong) d = tt
+    go (Ok n) d = rw (one_spelling latest x (lit< tt) d) (two_behind n w)
 
 -- behind two words
 module _ (x w v : List ℕ) where
-  third_word : (l : Line) → Two l (x ∷ w ∷ []) → (a : Signed) → signed_number v ≡ a → Two (with_slope l a) (x ∷ w ∷ v ∷ [])
+  third_word : (l : Result Line Wrong) → Two l (x ∷ w ∷ []) → (a : Result ℤ Wrong) → signed_number v ≡ a → Two (with_slope l a) (x ∷ w ∷ v ∷ [])
   unfolding with_slope named_by
-  third_word Empty t a e = tt
-  third_word (Refused wrong) t a e = tt
-  third_word (Hole n) t a e = tt
-  third_word (Knot n z) t (Untold wrong) e = tt
-  third_word (Knot n z) t (Told m) e = rw (← one_signed v e) (ap (λ ws. ws ++ (v ∷ [])) t)
-  third_word (Log n) t (Untold wrong) e = tt
-  third_word (Log n) t (Told m) e = (rw (← one_signed v e) (ap (λ ws. ws ++ (v ∷ [])) t.0), t.1)
-  third_word (Sloped n z m) t a e = absurd (let f : ◌≡◌ {A = ℕ} 2 3 = ap length t in omega arith)
-  third_word (SlopedLog n m) t a e = absurd (let f : ◌≡◌ {A = ℕ} 2 3 = ap length t.0 in omega arith)
+  third_word (Err wrong) t a e = tt
+  third_word (Ok Empty) t a e = tt
+  third_word (Ok (Hole n)) t a e = tt
+  third_word (Ok (Knot n z None)) t (Err wrong) e = tt
+  third_word (Ok (Knot n z None)) t (Ok m) e = rw (← one_signed v e) (ap (λ ws. ws ++ (v ∷ [])) t)
+  third_word (Ok (Log n None)) t (Err wrong) e = tt
+  third_word (Ok (Log n None)) t (Ok m) e = (rw (← one_signed v e) (ap (λ ws. ws ++ (v ∷ [])) t.0), t.1)
+  third_word (Ok (Knot n z (Some m))) t a e = absurd (let f : ◌≡◌ {A = ℕ} 2 3 = ap length t in omega arith)
+  third_word (Ok (Log n (Some m))) t a e = absurd (let f : ◌≡◌ {A = ℕ} 2 3 = ap length t.0 in omega arith)
 
 two_words : (ws : List (List ℕ)) → Two (line_by ws) ws
 unfolding line_by
@@ -156,18 +152,18 @@ two_words (x ∷ w ∷ v ∷ []) = third_word x w v (knot x w) (two_of_knot x w)
 two_words (x ∷ w ∷ v ∷ u ∷ ws) = tt
 
 module _ (ws : List (List ℕ)) {n : ℕ} where
-  pub knot_is_two_words : {z : ℤ} → line_by ws ≡ Knot n z → ws ≡ decimal n ∷ signed z ∷ []
+  pub knot_is_two_words : {z : ℤ} → line_by ws ≡ Ok (Knot n z None) → ws ≡ decimal n ∷ signed z ∷ []
   knot_is_two_words e = rw e at (two_words ws)
 
-  pub sloped_is_three_words : {z m : ℤ} → line_by ws ≡ Sloped n z m → ws ≡ decimal n ∷ signed z ∷ signed m ∷ []
+  pub sloped_is_three_words : {z m : ℤ} → line_by ws ≡ Ok (Knot n z (Some m)) → ws ≡ decimal n ∷ signed z ∷ signed m ∷ []
   sloped_is_three_words e = rw e at (two_words ws)
 
-  pub hole_is_two_words : line_by ws ≡ Hole n → ws ≡ decimal n ∷ (minus ∷ []) ∷ []
+  pub hole_is_two_words : line_by ws ≡ Ok (Hole n) → ws ≡ decimal n ∷ (minus ∷ []) ∷ []
   hole_is_two_words e = rw e at (two_words ws)
 
   -- the second is a '@' and the name, which has a byte
-  pub log_is_two_words : line_by ws ≡ Log n → (ws ≡ decimal n ∷ (at_sign ∷ named_by ws) ∷ []) × (0 < length (named_by ws))
+  pub log_is_two_words : line_by ws ≡ Ok (Log n None) → (ws ≡ decimal n ∷ (at_sign ∷ named_by ws) ∷ []) × (0 < length (named_by ws))
   log_is_two_words e = rw e at (two_words ws)
 
-  pub sloped_log_is_three_words : {m : ℤ} → line_by ws ≡ SlopedLog n m → (ws ≡ decimal n ∷ (at_sign ∷ named_by ws) ∷ signed m ∷ []) × (0 < length (named_by ws))
+  pub sloped_log_is_three_words : {m : ℤ} → line_by ws ≡ Ok (Log n (Some m)) → (ws ≡ decimal n ∷ (at_sign ∷ named_by ws) ∷ signed m ∷ []) × (0 < length (named_by ws))
   sloped_log_is_three_words e = rw e at (two_words ws)

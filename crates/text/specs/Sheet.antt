@@ -1,95 +1,59 @@
 -- A sheet: its lines in order up to the first that is wrong, and no further than the 65th knot. A hole is
 -- wrong, unless the sheet is to be mended. A log stands for a knot by the name of its file. A third number is
 -- the knot's slope in card units (document 02, order 8); all knots have one, or none has. Assumes nothing.
-use Rattle.std.specs.Prelude.{ℕ, zero, suc, ◌+◌, Bool, true, false, not, cond, ◌&&◌, List, [], ◌∷◌, ltb, eqb, ℤ, pos, length, drop, get_or, set, replicate}
+use Rattle.std.specs.Prelude.{ℕ, zero, suc, ◌+◌, Bool, true, false, not, cond, ◌&&◌, List, [], ◌∷◌, ltb, eqb, ℤ, pos, length, drop, get_or, set, replicate, Option, Some, None, Result, Ok, Err}
 use Rattle.split.specs.Parts.{lines, bare, words}
 use Rattle.numeral.specs.Number.{starts, natural, signed_number, ordinate}
-use Rattle.numeral.specs.declared.Number.{Number}
-use Rattle.numeral.specs.declared.Number.TheVariants.{Whole, Bad}
-use Rattle.numeral.specs.declared.Signed.{Signed}
-use Rattle.numeral.specs.declared.Signed.TheVariants.{Told, Untold}
-use Rattle.numeral.specs.declared.Ordinate.{Ordinate}
-use Rattle.numeral.specs.declared.Ordinate.TheVariants.{Given, Hole as Missing, Wrong}
+use Rattle.numeral.specs.declared.Wrong.{Wrong}
+use Rattle.text.specs.declared.Blame.{Blame}
 use Rattle.text.specs.declared.Line.{Line}
-use Rattle.text.specs.declared.Line.TheVariants.{Empty, Knot, Sloped, Hole, Log, SlopedLog, Refused}
+use Rattle.text.specs.declared.Line.TheVariants.{Empty, Knot, Hole, Log}
 use Rattle.text.specs.declared.Sheet.{Sheet}
 use Rattle.curve.specs.Card.{latest}
 use Rattle.holes.specs.Hole.{hole}
-
-abbrev pub too_few : ℕ
-too_few = 4
-
-abbrev pub too_many : ℕ
-too_many = 5
-
-abbrev pub too_long : ℕ
-too_long = 6
-
--- where the sheet is not to be mended
-abbrev pub is_hole : ℕ
-is_hole = 7
-
--- a '@' with no name behind it
-abbrev pub nameless : ℕ
-nameless = 8
-
--- a third word that is no slope
-abbrev pub no_slope : ℕ
-no_slope = 9
-
--- a knot without a slope behind one with a slope, and the other way
-abbrev pub slopeless : ℕ
-slopeless = 10
-
-abbrev pub odd_slope : ℕ
-odd_slope = 11
-
--- a slope where the sheet is to be mended
-abbrev pub unmended : ℕ
-unmended = 12
 
 -- '@'
 abbrev pub at_sign : ℕ
 at_sign = 64
 
 -- behind a minute: an ordinate or a hole
-unfoldable pub with_ordinate : ℕ → Ordinate → Line
-with_ordinate x (Wrong wrong) = Refused wrong
-with_ordinate x Missing = Hole x
-with_ordinate x (Given y) = Knot x y
+unfoldable pub with_ordinate : ℕ → Result (Option ℤ) Wrong → Result Line Wrong
+with_ordinate x (Err wrong) = Err wrong
+with_ordinate x (Ok None) = Ok (Hole x)
+with_ordinate x (Ok (Some y)) = Ok (Knot x y None)
 
 -- or the name of a log's file behind a '@'; the minute is then the log's first one
-unfoldable pub behind : ℕ → List ℕ → Line
-behind x w = cond (starts at_sign w) (cond (eqb (length w) 1) (Refused nameless) (Log x)) (with_ordinate x (ordinate w))
+unfoldable pub behind : ℕ → List ℕ → Result Line Wrong
+behind x w = cond (starts at_sign w) (cond (eqb (length w) 1) (Err Wrong.Nameless) (Ok (Log x None))) (with_ordinate x (ordinate w))
 
 -- the minute is looked at first
-unfoldable pub knot_by : Number → List ℕ → Line
-knot_by (Bad wrong) w = Refused wrong
-knot_by (Whole x) w = behind x w
+unfoldable pub knot_by : Result ℕ Wrong → List ℕ → Result Line Wrong
+knot_by (Err wrong) w = Err wrong
+knot_by (Ok x) w = behind x w
 
-abbrev pub knot : List ℕ → List ℕ → Line
+abbrev pub knot : List ℕ → List ℕ → Result Line Wrong
 knot x w = knot_by (natural latest x) w
 
 -- a third word is the slope; behind a hole it is one too many
-unfoldable pub with_slope : Line → Signed → Line
-with_slope (Knot x y) (Told m) = Sloped x y m
-with_slope (Knot x y) (Untold wrong) = Refused no_slope
-with_slope (Log x) (Told m) = SlopedLog x m
-with_slope (Log x) (Untold wrong) = Refused no_slope
-with_slope (Hole x) m = Refused too_many
-with_slope Empty m = Empty
-with_slope (Sloped x y z) m = Sloped x y z
-with_slope (SlopedLog x z) m = SlopedLog x z
-with_slope (Refused wrong) m = Refused wrong
+unfoldable pub with_slope : Result Line Wrong → Result ℤ Wrong → Result Line Wrong
+with_slope (Err wrong) m = Err wrong
+with_slope (Ok Empty) m = Ok Empty
+with_slope (Ok (Knot x y None)) (Ok m) = Ok (Knot x y (Some m))
+with_slope (Ok (Knot x y None)) (Err wrong) = Err Wrong.NoSlope
+with_slope (Ok (Knot x y (Some z))) m = Ok (Knot x y (Some z))
+with_slope (Ok (Log x None)) (Ok m) = Ok (Log x (Some m))
+with_slope (Ok (Log x None)) (Err wrong) = Err Wrong.NoSlope
+with_slope (Ok (Log x (Some z))) m = Ok (Log x (Some z))
+with_slope (Ok (Hole x)) m = Err Wrong.TooMany
 
-unfoldable pub line_by : List (List ℕ) → Line
-line_by [] = Empty
-line_by (x ∷ []) = Refused too_few
+unfoldable pub line_by : List (List ℕ) → Result Line Wrong
+line_by [] = Ok Empty
+line_by (x ∷ []) = Err Wrong.TooFew
 line_by (x ∷ y ∷ []) = knot x y
 line_by (x ∷ y ∷ z ∷ []) = with_slope (knot x y) (signed_number z)
-line_by (x ∷ y ∷ z ∷ w ∷ ws) = Refused too_many
+line_by (x ∷ y ∷ z ∷ w ∷ ws) = Err Wrong.TooMany
 
-unfoldable pub line : List ℕ → Line
+unfoldable pub line : List ℕ → Result Line Wrong
 line l = line_by (words (bare l))
 
 -- of line n, from 1, what is no comment
@@ -98,19 +62,14 @@ bare_line s zero = []
 bare_line s (suc n) = bare (get_or (lines s) n [])
 
 -- the word for which a line is refused: the first that is no number, or is a hole or nameless, or the first too many
-unfoldable pub blamed_of : Number → List ℕ → List ℕ → List ℕ
-blamed_of (Bad wrong) x y = x
-blamed_of (Whole n) x y = y
+unfoldable pub blamed_of : Result ℕ Wrong → List ℕ → List ℕ → List ℕ
+blamed_of (Err wrong) x y = x
+blamed_of (Ok n) x y = y
 
 -- of three words the last, where the two before it are a knot
-unfoldable pub blamed_third : Line → (two third : List ℕ) → List ℕ
-blamed_third (Refused wrong) two third = two
-blamed_third Empty two third = third
-blamed_third (Knot x y) two third = third
-blamed_third (Sloped x y m) two third = third
-blamed_third (Hole x) two third = third
-blamed_third (Log x) two third = third
-blamed_third (SlopedLog x m) two third = third
+unfoldable pub blamed_third : Result Line Wrong → (two third : List ℕ) → List ℕ
+blamed_third (Err wrong) two third = two
+blamed_third (Ok l) two third = third
 
 unfoldable pub blamed_by : List (List ℕ) → List ℕ
 blamed_by [] = []
@@ -137,12 +96,10 @@ log_name s n = named_by (words (bare_line s n))
 abbrev pub most : ℕ
 most = 65
 
--- zeros beside what is wrong
-unfoldable pub refused : ℕ → ℕ → Sheet
-refused wrong n =
+-- zeros
+unfoldable pub no_knots : Sheet
+no_knots =
     record {
-      wrong = wrong;
-      line = n;
       knots = 0;
       sloped = false;
       minutes = replicate most 0;
@@ -156,8 +113,6 @@ refused wrong n =
 unfoldable pub with_knot : Sheet → (n x : ℕ) → ℤ → (log sloped : Bool) → ℤ → Sheet
 with_knot s n x y log sloped m =
     record {
-      wrong = 0;
-      line = 0;
       knots = s.knots + 1;
       sloped = sloped;
       minutes = set s.minutes s.knots x;
@@ -167,37 +122,53 @@ with_knot s n x y log sloped m =
       logs = set s.logs s.knots log;
     }
 
-unfoldable pub without_slope : Sheet → (n x : ℕ) → ℤ → (log : Bool) → Sheet
-without_slope s n x y log = cond s.sloped (refused slopeless n) (with_knot s n x y log false (pos 0))
+unfoldable pub without_slope : Sheet → (n x : ℕ) → ℤ → (log : Bool) → Result Sheet Wrong
+without_slope s n x y log = cond s.sloped (Err Wrong.Slopeless) (Ok (with_knot s n x y log false (pos 0)))
 
 -- some knots, and none with a slope
 abbrev pub unsloped : Sheet → Bool
 unsloped s = not s.sloped && ltb 0 s.knots
 
-unfoldable pub sloping : (mends : Bool) → Sheet → (n x : ℕ) → ℤ → (log : Bool) → ℤ → Sheet
+unfoldable pub sloping : (mends : Bool) → Sheet → (n x : ℕ) → ℤ → (log : Bool) → ℤ → Result Sheet Wrong
 sloping mends s n x y log m =
-    cond mends (refused unmended n) (cond (unsloped s) (refused odd_slope n) (with_knot s n x y log true m))
+    cond mends (Err Wrong.Unmended) (cond (unsloped s) (Err Wrong.OddSlope) (Ok (with_knot s n x y log true m)))
 
 -- line n is taken; a hole is a knot with the mark for its ordinate where the sheet is to be mended, else it is wrong
-unfoldable pub taken : (mends : Bool) → Sheet → ℕ → Line → Sheet
-taken mends s n Empty = s
-taken mends s n (Refused wrong) = refused wrong n
-taken mends s n (Knot x y) = without_slope s n x y false
-taken mends s n (Sloped x y m) = sloping mends s n x y false m
-taken mends s n (Hole x) = cond mends (without_slope s n x hole false) (refused is_hole n)
-taken mends s n (Log x) = without_slope s n x (pos 0) true
-taken mends s n (SlopedLog x m) = sloping mends s n x (pos 0) true m
+unfoldable pub taken : (mends : Bool) → Sheet → ℕ → Line → Result Sheet Wrong
+taken mends s n Empty = Ok s
+taken mends s n (Knot x y None) = without_slope s n x y false
+taken mends s n (Knot x y (Some m)) = sloping mends s n x y false m
+taken mends s n (Hole x) = cond mends (without_slope s n x hole false) (Err Wrong.Hole)
+taken mends s n (Log x None) = without_slope s n x (pos 0) true
+taken mends s n (Log x (Some m)) = sloping mends s n x (pos 0) true m
 
-unfoldable pub goes_on : Sheet → Bool
-goes_on s = eqb s.wrong 0 && ltb s.knots most
+-- what is wrong, on that line
+abbrev pub blame : Wrong → ℕ → Blame
+blame wrong n = record { wrong = wrong; line = n }
+
+unfoldable pub blaming : ℕ → Result Sheet Wrong → Result Sheet Blame
+blaming n (Err wrong) = Err (blame wrong n)
+blaming n (Ok s) = Ok s
+
+unfoldable pub line_taken : (mends : Bool) → Sheet → ℕ → Result Line Wrong → Result Sheet Blame
+line_taken mends s n (Err wrong) = Err (blame wrong n)
+line_taken mends s n (Ok l) = blaming n (taken mends s n l)
+
+abbrev pub with_line : (mends : Bool) → Sheet → ℕ → List ℕ → Result Sheet Blame
+with_line mends s n l = line_taken mends s n (line l)
+
+-- what follows where nothing is wrong
+unfoldable pub then : {A : Type 0} → Result A Blame → (A → Result A Blame) → Result A Blame
+then (Err b) f = Err b
+then (Ok s) f = f s
 
 -- the lines from line n on
-unfoldable pub read : (mends : Bool) → Sheet → ℕ → List (List ℕ) → Sheet
-read mends s n [] = s
-read mends s n (l ∷ ls) = cond (goes_on s) (read mends (taken mends s n (line l)) (suc n) ls) s
+unfoldable pub read : (mends : Bool) → Sheet → ℕ → List (List ℕ) → Result Sheet Blame
+read mends s n [] = Ok s
+read mends s n (l ∷ ls) = cond (ltb s.knots most) (then (with_line mends s n l) (λ t. read mends t (suc n) ls)) (Ok s)
 
 abbrev pub longest : ℕ
 longest = 65535
 
-unfoldable pub sheet : (mends : Bool) → List ℕ → Sheet
-sheet mends s = cond (ltb longest (length s)) (refused too_long 0) (read mends (refused 0 0) 1 (lines s))
+unfoldable pub sheet : (mends : Bool) → List ℕ → Result Sheet Blame
+sheet mends s = cond (ltb longest (length s)) (Err (blame Wrong.TooLong 0)) (read mends no_knots 1 (lines s))

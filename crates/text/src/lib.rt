@@ -3,100 +3,115 @@
 // bytes, of any length, are answered.
 #![tactic(auto)]
 
-ghost use Rattle.std.specs.Prelude.{◌≡◌, ◌<◌};
+ghost use Rattle.std.specs.Prelude.{◌≡◌, ◌<◌, Ok};
 ghost use Rattle.split.specs.Parts.{words};
 ghost use Rattle.numeral.specs.Number.{natural};
 ghost use Rattle.curve.specs.Card.{latest};
-ghost use Rattle.text.specs.Sheet.{with_ordinate, behind, knot, with_slope, line_by, line, bare_line, blamed_of, blamed_third, blamed_by, blamed, named, named_by, log_name, most, refused, with_knot, without_slope, unsloped, sloping, taken, sheet};
+ghost use Rattle.text.specs.Sheet.{with_ordinate, behind, knot, with_slope, line_by, line, bare_line, blamed_of, blamed_third, blamed_by, blamed, named, named_by, log_name, most, no_knots, with_knot, without_slope, sloping, taken, with_line, sheet};
 
-use numeral::{Number, Ordinate, Signed};
+use numeral::Wrong;
 use split::Mark;
 
-// What a line is.
+// What a line is, where nothing is wrong with it. The minute of a log is its first one.
 #[derive(Drop)]
 pub enum Line {
     Empty,
-    Knot(u16, i16),
-    Sloped(u16, i16, i32),
-    Hole(u16),
-    Log(u16),
-    SlopedLog(u16, i32),
-    Refused(u32),
+    Knot {
+        minute: u16,
+        ordinate: i16,
+        slope: Option<i32>,
+    },
+    Hole {
+        minute: u16,
+    },
+    Log {
+        minute: u16,
+        slope: Option<i32>,
+    },
 }
 
 impl Line {
     // The largest minute that can be written down.
     const LATEST: u32 = 65535;
 
-    pub const TOO_FEW: u32 = 4;
-
-    pub const TOO_MANY: u32 = 5;
-
-    // A '@' with no name behind it.
-    pub const NAMELESS: u32 = 8;
-
-    pub const NO_SLOPE: u32 = 9;
-
-    fn with_ordinate(x: u16, ordinate: Ordinate) -> Line
-        ensures { result ≡ with_ordinate x ordinate }
+    #[tactic(auto, unfolding(crate::specs::Sheet::with_ordinate))]
+    fn with_ordinate(minute: u16, ordinate: Option<i16>) -> Line
+        ensures { Ok result ≡ with_ordinate minute (Ok ordinate) }
     {
         match ordinate {
-            Ordinate::Wrong(wrong) => Line::Refused(wrong),
-            Ordinate::Hole => Line::Hole(x),
-            Ordinate::Given(y) => Line::Knot(x, y),
+            None => Line::Hole { minute },
+            Some(ordinate) => Line::Knot {
+                minute,
+                ordinate,
+                slope: None,
+            },
         }
     }
 
-    fn behind(x: u16, word: &[u8]) -> Line
-        ensures { result ≡ behind x word.now }
+    #[tactic(auto, unfolding(crate::specs::Sheet::behind, crate::specs::Sheet::with_ordinate))]
+    fn behind(minute: u16, word: &[u8]) -> Result<Line, Wrong>
+        ensures { result ≡ behind minute word.now }
     {
         if numeral::starts(word, b'@') {
             if word.len() == 1 {
-                return Line::Refused(Line::NAMELESS);
+                return Err(Wrong::Nameless);
             }
-            return Line::Log(x);
+            return Ok(Line::Log {
+                minute,
+                slope: None,
+            });
         }
-        Line::with_ordinate(x, Ordinate::of(word))
+        Ok(Line::with_ordinate(minute, numeral::ordinate(word)?))
     }
 
-    fn knot(minute: &[u8], word: &[u8]) -> Line
+    #[tactic(auto, unfolding(crate::specs::Sheet::knot_by))]
+    fn knot(minute: &[u8], word: &[u8]) -> Result<Line, Wrong>
         ensures { result ≡ knot minute.now word.now }
     {
-        match Number::natural(minute, Line::LATEST) {
-            Number::Bad(wrong) => Line::Refused(wrong),
-            Number::Whole(x) => Line::behind(x as u16, word),
-        }
+        let x = numeral::natural(minute, Line::LATEST)?;
+        Line::behind(x as u16, word)
     }
 
     // Behind a hole a third word is one too many.
-    fn with_slope(self, number: Signed) -> Line
-        ensures { result ≡ with_slope self number }
+    #[tactic(auto, unfolding(crate::specs::Sheet::with_slope))]
+    fn with_slope(self, number: Result<i32, Wrong>) -> Result<Line, Wrong>
+        ensures { result ≡ with_slope (Ok self) number }
     {
         match self {
-            Line::Knot(x, y) => match number {
-                Signed::Told(m) => Line::Sloped(x, y, m),
-                Signed::Untold(_) => Line::Refused(Line::NO_SLOPE),
-            },
-            Line::Log(x) => match number {
-                Signed::Told(m) => Line::SlopedLog(x, m),
-                Signed::Untold(_) => Line::Refused(Line::NO_SLOPE),
-            },
-            Line::Hole(_) => Line::Refused(Line::TOO_MANY),
-            Line::Refused(wrong) => Line::Refused(wrong),
-            _ => self,
+            Line::Knot {
+                minute,
+                ordinate,
+                slope: None,
+            } => {
+                let slope = Some(number.map_err(|_| Wrong::NoSlope)?);
+                Ok(Line::Knot {
+                    minute,
+                    ordinate,
+                    slope,
+                })
+            }
+            Line::Log {
+                minute,
+                slope: None,
+            } => {
+                let slope = Some(number.map_err(|_| Wrong::NoSlope)?);
+                Ok(Line::Log { minute, slope })
+            }
+            Line::Hole { .. } => Err(Wrong::TooMany),
+            _ => Ok(self),
         }
     }
 
-    fn of_words(text: &[u8]) -> Line
+    fn of_words(text: &[u8]) -> Result<Line, Wrong>
         ensures { result ≡ line_by (words text.now) }
     {
         let first = split::past(Mark::Word, text);
         if first.len() == 0 {
-            return Line::Empty;
+            return Ok(Line::Empty);
         }
         let second = split::past(Mark::Word, split::past(Mark::Blank, first));
         if second.len() == 0 {
-            return Line::Refused(Line::TOO_FEW);
+            return Err(Wrong::TooFew);
         }
         let two = Line::knot(
             split::until(Mark::Blank, first),
@@ -108,12 +123,12 @@ impl Line {
         }
         let fourth = split::past(Mark::Word, split::past(Mark::Blank, third));
         if 0 < fourth.len() {
-            return Line::Refused(Line::TOO_MANY);
+            return Err(Wrong::TooMany);
         }
-        two.with_slope(Signed::of(split::until(Mark::Blank, third)))
+        two?.with_slope(numeral::signed(split::until(Mark::Blank, third)))
     }
 
-    fn of(text: &[u8]) -> Line
+    fn of(text: &[u8]) -> Result<Line, Wrong>
         ensures { result ≡ line text.now }
     {
         Line::of_words(split::until(Mark::Note, text))
@@ -121,22 +136,24 @@ impl Line {
 }
 
 // Of two words the minute, where it is wrong, else the other.
+#[tactic(auto, unfolding(crate::specs::Sheet::blamed_of))]
 fn blamed_two<'a>(minute: &'a [u8], word: &'a [u8]) -> &'a [u8]
     ensures { result.now ≡ blamed_of (natural latest minute.now) minute.now word.now }
 {
-    match Number::natural(minute, Line::LATEST) {
-        Number::Bad(_) => minute,
-        Number::Whole(_) => word,
+    match numeral::natural(minute, Line::LATEST) {
+        Err(_) => minute,
+        Ok(_) => word,
     }
 }
 
 // Of three words the last, where the two before it are a knot.
+#[tactic(auto, unfolding(crate::specs::Sheet::blamed_third))]
 fn blamed_three<'a>(minute: &'a [u8], word: &'a [u8], third: &'a [u8]) -> &'a [u8]
     ensures { result.now ≡ blamed_third (knot minute.now word.now) (blamed_of (natural latest minute.now) minute.now word.now) third.now }
 {
     match Line::knot(minute, word) {
-        Line::Refused(_) => blamed_two(minute, word),
-        _ => third,
+        Err(_) => blamed_two(minute, word),
+        Ok(_) => third,
     }
 }
 
@@ -205,13 +222,18 @@ pub fn log_name(text: &[u8], line: u32) -> &[u8]
     named_word(bare_line(text, line))
 }
 
-// What is wrong and on which line, or 0 and 0; how many knots there are, whether they have slopes, and at the
-// front of five arrays their numbers, the line of each, and whether it is a log's: its minute is then the
-// log's first one, and its ordinate 0. A slope that is not there is 0.
+// What is wrong, and on which line, from 1; 0 where it is the whole text.
+#[derive(Clone, Copy)]
+pub struct Blame {
+    pub wrong: Wrong,
+    pub line: u32,
+}
+
+// How many knots there are, whether they have slopes, and at the front of five arrays their numbers, the line
+// of each, and whether it is a log's: its minute is then the log's first one, and its ordinate 0. A slope that
+// is not there is 0. A fit is lent one list for each kind of number, as C lends them: so these are arrays.
 #[derive(Clone, Copy)]
 pub struct Sheet {
-    pub wrong: u32,
-    pub line: u32,
     pub knots: usize,
     pub sloped: bool,
     pub minutes: [u16; Sheet::MOST],
@@ -228,25 +250,11 @@ impl Sheet {
     // One byte less than a large buffer has, so that a longer text can be told.
     pub const LONGEST: usize = 65535;
 
-    pub const TOO_LONG: u32 = 6;
-
-    // Where the sheet is not to be mended.
-    pub const HOLE: u32 = 7;
-
-    // A knot without a slope behind one with a slope, and the other way.
-    pub const SLOPELESS: u32 = 10;
-
-    pub const ODD_SLOPE: u32 = 11;
-
-    // A slope where the sheet is to be mended.
-    pub const UNMENDED: u32 = 12;
-
-    fn refused(wrong: u32, line: u32) -> Sheet
-        ensures { result ≡ refused wrong line }
+    #[tactic(auto, unfolding(crate::specs::Sheet::no_knots))]
+    fn new() -> Sheet
+        ensures { result ≡ no_knots }
     {
         Sheet {
-            wrong,
-            line,
             knots: 0,
             sloped: false,
             minutes: [0; Sheet::MOST],
@@ -257,6 +265,7 @@ impl Sheet {
         }
     }
 
+    #[tactic(auto, unfolding(crate::specs::Sheet::with_knot))]
     fn with_knot(
         self,
         line: u32,
@@ -281,8 +290,6 @@ impl Sheet {
         lines[knots] = line;
         logs[knots] = log;
         Sheet {
-            wrong: 0,
-            line: 0,
             knots: knots + 1,
             sloped,
             minutes,
@@ -294,27 +301,19 @@ impl Sheet {
     }
 
     // All knots before it have none either.
-    fn without_slope(self, line: u32, minute: u16, ordinate: i16, log: bool) -> Sheet
+    #[tactic(auto, unfolding(crate::specs::Sheet::without_slope))]
+    fn without_slope(self, line: u32, minute: u16, ordinate: i16, log: bool) -> Result<Sheet, Wrong>
         requires { self.knots < most }
         ensures { result ≡ without_slope self line minute ordinate log }
     {
         if self.sloped {
-            return Sheet::refused(Sheet::SLOPELESS, line);
+            return Err(Wrong::Slopeless);
         }
-        self.with_knot(line, minute, ordinate, log, false, 0)
-    }
-
-    // Whether there are knots, and none with a slope.
-    fn unsloped(self) -> bool
-        ensures { result ≡ unsloped self }
-    {
-        if self.sloped {
-            return false;
-        }
-        0 < self.knots
+        Ok(self.with_knot(line, minute, ordinate, log, false, 0))
     }
 
     // All knots before it have one too.
+    #[tactic(auto, unfolding(crate::specs::Sheet::sloping))]
     fn sloping(
         self,
         mends: bool,
@@ -323,55 +322,83 @@ impl Sheet {
         ordinate: i16,
         log: bool,
         slope: i32,
-    ) -> Sheet
+    ) -> Result<Sheet, Wrong>
         requires { self.knots < most }
         ensures { result ≡ sloping mends self line minute ordinate log slope }
     {
         if mends {
-            return Sheet::refused(Sheet::UNMENDED, line);
+            return Err(Wrong::Unmended);
         }
-        if self.unsloped() {
-            return Sheet::refused(Sheet::ODD_SLOPE, line);
+        if !self.sloped && 0 < self.knots {
+            return Err(Wrong::OddSlope);
         }
-        self.with_knot(line, minute, ordinate, log, true, slope)
+        Ok(self.with_knot(line, minute, ordinate, log, true, slope))
     }
 
-    fn taken(self, mends: bool, line: u32, found: Line) -> Sheet
+    #[tactic(auto, unfolding(crate::specs::Sheet::taken))]
+    fn taken(self, mends: bool, line: u32, found: Line) -> Result<Sheet, Wrong>
         requires { self.knots < most }
         ensures { result ≡ taken mends self line found }
     {
         match found {
-            Line::Empty => self,
-            Line::Refused(wrong) => Sheet::refused(wrong, line),
-            Line::Knot(x, y) => self.without_slope(line, x, y, false),
-            Line::Sloped(x, y, m) => self.sloping(mends, line, x, y, false, m),
-            Line::Log(x) => self.without_slope(line, x, 0, true),
-            Line::SlopedLog(x, m) => self.sloping(mends, line, x, 0, true, m),
-            Line::Hole(x) => {
+            Line::Empty => Ok(self),
+            Line::Knot {
+                minute,
+                ordinate,
+                slope: None,
+            } => self.without_slope(line, minute, ordinate, false),
+            Line::Knot {
+                minute,
+                ordinate,
+                slope: Some(m),
+            } => self.sloping(mends, line, minute, ordinate, false, m),
+            Line::Log {
+                minute,
+                slope: None,
+            } => self.without_slope(line, minute, 0, true),
+            Line::Log {
+                minute,
+                slope: Some(m),
+            } => self.sloping(mends, line, minute, 0, true, m),
+            Line::Hole { minute } => {
                 if mends {
-                    return self.without_slope(line, x, holes::MARK, false);
+                    return self.without_slope(line, minute, holes::MARK, false);
                 }
-                Sheet::refused(Sheet::HOLE, line)
+                Err(Wrong::Hole)
             }
         }
     }
 
+    #[tactic(auto, unfolding(crate::specs::Sheet::line_taken, crate::specs::Sheet::blaming))]
+    fn with_line(self, mends: bool, line: u32, text: &[u8]) -> Result<Sheet, Blame>
+        requires { self.knots < most }
+        ensures { result ≡ with_line mends self line text.now }
+    {
+        Line::of(text)
+            .and_then(|found| self.taken(mends, line, found))
+            .map_err(|wrong| Blame { wrong, line })
+    }
+
     // A hole is taken, as a knot with the mark for its ordinate, only where the sheet is to be mended.
-    pub fn read(text: &[u8], mends: bool) -> Sheet
+    pub fn read(text: &[u8], mends: bool) -> Result<Sheet, Blame>
         ensures { result ≡ sheet mends text.now }
     {
         if Sheet::LONGEST < text.len() {
-            return Sheet::refused(Sheet::TOO_LONG, 0);
+            return Err(Blame {
+                wrong: Wrong::TooLong,
+                line: 0,
+            });
         }
-        let mut sheet = Sheet::refused(0, 0);
+        let mut sheet = Sheet::new();
         let mut line: u32 = 1;
         let mut at: usize = 0;
-        while sheet.wrong == 0 && sheet.knots < Sheet::MOST && at <= text.len() {
+        // only the line that was found says where the next one starts: a for would be no plainer
+        while sheet.knots < Sheet::MOST && at <= text.len() {
             let found = split::until(Mark::LineEnd, split::from(text, at));
-            sheet = sheet.taken(mends, line, Line::of(found));
+            sheet = sheet.with_line(mends, line, found)?;
             line += 1;
-            at = at + found.len() + 1;
+            at += found.len() + 1;
         }
-        sheet
+        Ok(sheet)
     }
 }

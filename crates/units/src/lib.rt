@@ -30,6 +30,7 @@ fn magnitude(q: u64, k: u64) -> u64
     whole::nearest_unsigned(q, 1 << (1062 - k))
 }
 
+#[tactic(auto, unfolding(crate::specs::Bits::size_of))]
 fn size(bits: u64) -> u64
     ensures { result ≡ size_of bits }
 {
@@ -46,7 +47,7 @@ fn signed(negative: bool, n: u64) -> i32
     requires { n ≤ farthest }
     ensures { result ≡ signed negative n }
 {
-    if negative { 0 - (n as i32) } else { n as i32 }
+    if negative { -(n as i32) } else { n as i32 }
 }
 
 // The whole number nearest to the exact 4096·u, ties to even.
@@ -54,6 +55,6 @@ pub fn units_of(u: f64) -> i32
     requires { is_finite u ≡ true }
     ensures { result ≡ held (units_of u) }
 {
-    let bits = f64::to_bits(u);
+    let bits = u.to_bits();
     signed(bits >= SIGN, size(bits))
 }

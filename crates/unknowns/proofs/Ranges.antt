@@ -14,7 +14,7 @@ use Rattle.whole.proofs.Interval.{◌∈◌, ◌to◌, ±, ∈_abs}
 use Rattle.answer.specs.Answer.{accepted}
 use Rattle.answer.proofs.Steps.{first_accepts, next_accepts, refuse_accepts, each_accepts}
 use Rattle.curve.specs.Kind.{quintic}
-use Rattle.cubic.specs.Cubic.{most_values, a, y, scale, δ², sum, unknown, largest}
+use Rattle.cubic.specs.Cubic.{most_values, a, scale, δ², sum, unknown, largest}
 use Rattle.cubic.proofs.Entries.{positive}
 use Rattle.cubic.proofs.Sizes.{second_difference_size, sum_size, unknown_size}
 use Rattle.cubic.proofs.Table.{entry_most}

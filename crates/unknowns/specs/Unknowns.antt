@@ -1,8 +1,10 @@
 -- Document 02, order 10: what a table of values is refused for, and an unknown as it is answered. Assumes
 -- nothing.
-use Rattle.std.specs.Prelude.{ℕ, suc, ◌≤◌, List, ℤ, pos, leb, ltb, length}
+use Rattle.std.specs.Prelude.{ℕ, suc, ◌≤◌, List, ℤ, pos, leb, ltb, length, Result, Ok, Err}
 use Rattle.whole.specs.Whole.{beyond}
 use Rattle.answer.specs.Answer.{Answer, refused, given, Verdict, ◌then◌, refuse, each}
+use Rattle.answer.specs.Judge.{number_of}
+use Rattle.answer.specs.declared.Refusal.{Refusal}
 use Rattle.curve.specs.Kind.{quintic}
 use Rattle.cubic.specs.Cubic.{most_values, y, scale, unknown, Within}
 use Rattle.unknowns.specs.declared.Pair.{Pair}
@@ -22,12 +24,12 @@ checked ys = counted (length ys) then each (in_range ys) 0 (length ys)
 -- ---- an unknown, and the scale that it is over
 
 abbrev pub fraction : List ℤ → ℕ → Unknown
-fraction ys i = record { number = 0; place = 0; unknown = unknown ys i; scale = pos (scale ys) }
+fraction ys i = record { unknown = unknown ys i; scale = pos (scale ys) }
 
--- zeros beside a refusal
-abbrev pub told : Answer Unknown → Unknown
-told (refused n p) = record { number = n; place = p; unknown = pos 0; scale = pos 0 }
-told (given u) = u
+-- what is given, or the refusal in the table's numbers
+abbrev pub answer_of : {A : Type 0} → Result A Refusal → Answer A
+answer_of (Ok a) = given a
+answer_of (Err e) = refused (number_of e.reason) e.place
 
 -- 1, 24, 6, and 11 past the last value
 unfoldable pub unknown_order : List ℤ → ℕ → Answer Unknown

@@ -4,40 +4,39 @@
 #![tactic(auto)]
 
 ghost use Rattle.std.specs.Prelude.{◌≡◌, ◌+◌, ◌-◌, ◌<◌, ◌^◌, length};
-ghost use Rattle.answer.specs.Answer.{refused, each};
+ghost use Rattle.answer.specs.Answer.{each};
 ghost use Rattle.answer.specs.Judge.{verdict_of};
-ghost use Rattle.cubic.specs.Cubic.{y, δ², sum};
-ghost use Rattle.unknowns.specs.Unknowns.{in_range, checked, told, unknown_order, pair_at, Sound};
+ghost use Rattle.cubic.specs.Cubic.{y, δ², sum, unknown};
+ghost use Rattle.unknowns.specs.Unknowns.{in_range, checked, answer_of, unknown_order, pair_at, Sound};
 
-use answer::Judged;
+use answer::{Judged, Reason, Refusal};
 use knots::Kind;
 
 // ---- 1, 24, 6
+
+// At a value.
+#[tactic(auto, unfolding(crate::specs::Unknowns::in_range, curve::specs::Kind::quintic))]
+fn in_range_at(ys: &[i16], i: usize) -> Judged
+    requires { (i < length ys.now) × (length ys.now < 2 ^ 32) }
+    ensures { verdict_of result ≡ in_range ys.now i }
+{
+    let far = knots::beyond(Kind::ORDINATE, ys[i] as i32);
+    answer::refuse(Reason::FarOrdinate, i as u32, far)
+}
 
 fn in_range(ys: &[i16]) -> Judged
     requires { length ys.now < 2 ^ 32 }
     ensures { verdict_of result ≡ each (in_range ys.now) 0 (length ys.now) }
 {
-    let mut i = 0;
-    while i < ys.len() {
-        let y = ys[i];
-        if knots::beyond(Kind::ORDINATE, y as i32) {
-            return Judged::Refused(6, i as u32);
-        }
-        i += 1;
-    }
-    Judged::Accepted
+    answer::each(ys.len(), |i| in_range_at(ys, i))
 }
 
+#[tactic(auto, using(answer::proofs::Orders::orders), unfolding(crate::specs::Unknowns::checked, crate::specs::Unknowns::counted, curve::specs::Kind::quintic))]
 pub fn check(ys: &[i16]) -> Judged
     ensures { verdict_of result ≡ checked ys.now }
 {
-    if ys.len() < Kind::FEWEST {
-        return Judged::Refused(1, 0);
-    }
-    if cubic::MOST < ys.len() {
-        return Judged::Refused(24, 0);
-    }
+    answer::refuse(Reason::FewKnots, 0, ys.len() < Kind::FEWEST)?;
+    answer::refuse(Reason::ManyValues, 0, cubic::MOST < ys.len())?;
     in_range(ys)
 }
 
@@ -47,8 +46,7 @@ pub fn value_at(ys: &[i16], i: usize) -> i64
     requires { i < length ys.now }
     ensures { result ≡ y ys.now i }
 {
-    let value = ys[i];
-    value as i64
+    ys[i] as i64
 }
 
 fn second_difference(ys: &[i16], i: usize) -> i64
@@ -65,11 +63,9 @@ fn first(ys: &[i16]) -> i64
     ensures { result ≡ sum ys.now 0 (length ys.now - 2) }
 {
     let inner = ys.len() - 2;
-    let mut k: usize = 0;
     let mut total: i64 = 0;
-    while k < inner {
+    for k in 0..inner {
         total = cubic::entry(k) * second_difference(ys, inner - 1 - k) - total;
-        k += 1;
     }
     total
 }
@@ -90,14 +86,22 @@ pub fn at(ys: &[i16], place: usize) -> Pair
     let scale = cubic::entry(ys.len() - 2);
     let mut here: i64 = 0;
     let mut next = first(ys);
-    let mut i: usize = 0;
-    while i < place {
+    for i in 0..place {
         let after = scale * second_difference(ys, i) - 4 * next - here;
         here = next;
         next = after;
-        i += 1;
     }
     Pair { here, next }
+}
+
+// At a place.
+#[tactic(auto, unfolding(cubic::specs::Cubic::unknown))]
+fn one_at(ys: &[i16], i: usize) -> i64
+    requires sound { Sound ys.now }
+    requires i_in_bounds { i < length ys.now }
+    ensures { result ≡ unknown ys.now i }
+{
+    if i == 0 { 0 } else { at(ys, i - 1).next }
 }
 
 // ---- answered
@@ -105,52 +109,20 @@ pub fn at(ys: &[i16], place: usize) -> Pair
 // `unknown` over `scale` is one sixth of the second derivative at a value, the step being one.
 #[derive(Drop)]
 pub struct Unknown {
-    pub number: u32,
-    pub place: u32,
     pub unknown: i64,
     pub scale: i64,
 }
 
-impl Unknown {
-    fn refused(number: u32, place: u32) -> Unknown
-        ensures { result ≡ told (refused number place) }
-    {
-        Unknown {
-            number,
-            place,
-            unknown: 0,
-            scale: 0,
-        }
-    }
-}
-
 // 1, 24, 6; 11 past the last value.
-pub fn unknown_at(ys: &[i16], place: u16) -> Unknown
-    ensures { result ≡ told (unknown_order ys.now place) }
+#[tactic(auto, using(answer::proofs::Orders::orders), unfolding(crate::specs::Unknowns::unknown_order))]
+pub fn unknown_at(ys: &[i16], place: u16) -> Result<Unknown, Refusal>
+    ensures { answer_of result ≡ unknown_order ys.now place }
 {
-    match check(ys) {
-        Judged::Refused(number, at) => Unknown::refused(number, at),
-        Judged::Accepted => {
-            let i = place as usize;
-            if ys.len() <= i {
-                return Unknown::refused(11, 0);
-            }
-            let scale = cubic::entry(ys.len() - 2);
-            if i == 0 {
-                return Unknown {
-                    number: 0,
-                    place: 0,
-                    unknown: 0,
-                    scale,
-                };
-            }
-            let pair = at(ys, i - 1);
-            Unknown {
-                number: 0,
-                place: 0,
-                unknown: pair.next,
-                scale,
-            }
-        }
-    }
+    check(ys)?;
+    let i = place as usize;
+    answer::refuse(Reason::Outside, 0, ys.len() <= i)?;
+    Ok(Unknown {
+        unknown: one_at(ys, i),
+        scale: cubic::entry(ys.len() - 2),
+    })
 }

@@ -4,18 +4,16 @@
 
 ghost use Rattle.std.specs.Prelude.{◌≡◌, ◌<◌};
 ghost use Rattle.split.specs.Parts.{words};
-ghost use Rattle.values.specs.Values.{most, refused, with_value, taken, with_words, values, first_wrong, blamed};
+ghost use Rattle.values.specs.Values.{most, no_values, with_value, taken, with_words, values, first_wrong, blamed};
 
-use numeral::{Number, Ordinate};
+use numeral::Wrong;
 use split::Mark;
-use text::Sheet;
+use text::{Blame, Sheet};
 
-// What is wrong and on which line, or 0 and 0; how many values there are, and at the front of two arrays the
-// values, and the line of each.
+// How many values there are, and at the front of two arrays the values, and the line of each. What lists the
+// table is lent its values as one list, as C lends them: so these are arrays.
 #[derive(Drop)]
 pub struct Values {
-    pub wrong: u32,
-    pub line: u32,
     pub count: usize,
     pub values: [i16; Values::MOST],
     pub lines: [u32; Values::MOST],
@@ -25,18 +23,18 @@ impl Values {
     // One more than a table has, so that 24 can be told.
     pub const MOST: usize = 21;
 
-    fn refused(wrong: u32, line: u32) -> Values
-        ensures { result ≡ refused wrong line }
+    #[tactic(auto, unfolding(crate::specs::Values::no_values))]
+    fn new() -> Values
+        ensures { result ≡ no_values }
     {
         Values {
-            wrong,
-            line,
             count: 0,
             values: [0; Values::MOST],
             lines: [0; Values::MOST],
         }
     }
 
+    #[tactic(auto, unfolding(crate::specs::Values::with_value))]
     fn with_value(self, line: u32, value: i16) -> Values
         requires { self.count < most }
         ensures { result ≡ with_value self line value }
@@ -47,8 +45,6 @@ impl Values {
         values[count] = value;
         lines[count] = line;
         Values {
-            wrong: 0,
-            line: 0,
             count: count + 1,
             values,
             lines,
@@ -56,52 +52,57 @@ impl Values {
     }
 
     // A table has no holes.
-    fn taken(self, line: u32, word: Ordinate) -> Values
+    #[tactic(auto, unfolding(crate::specs::Values::taken))]
+    fn taken(self, line: u32, word: Result<Option<i16>, Wrong>) -> Result<Values, Blame>
         requires { self.count < most }
         ensures { result ≡ taken self line word }
     {
         match word {
-            Ordinate::Given(value) => self.with_value(line, value),
-            Ordinate::Hole => Values::refused(Number::NOT_WHOLE, line),
-            Ordinate::Wrong(wrong) => Values::refused(wrong, line),
+            Ok(Some(value)) => Ok(self.with_value(line, value)),
+            Ok(None) => Err(Blame {
+                wrong: Wrong::NotWhole,
+                line,
+            }),
+            Err(wrong) => Err(Blame { wrong, line }),
         }
     }
 
     // The words of a line, up to the first that is no number, and while there is a place.
-    fn with_words(self, line: u32, text: &[u8]) -> Values
+    fn with_words(self, line: u32, text: &[u8]) -> Result<Values, Blame>
         ensures { result ≡ with_words self line (words text.now) }
     {
         let first = split::past(Mark::Word, text);
         if first.len() == 0 {
-            return self;
-        }
-        if self.wrong != 0 {
-            return self;
+            return Ok(self);
         }
         if Values::MOST <= self.count {
-            return self;
+            return Ok(self);
         }
         let word = split::until(Mark::Blank, first);
-        let next = self.taken(line, Ordinate::of(word));
+        let next = self.taken(line, numeral::ordinate(word))?;
         next.with_words(line, split::past(Mark::Blank, first))
     }
 
-    pub fn read(text: &[u8]) -> Values
+    pub fn read(text: &[u8]) -> Result<Values, Blame>
         ensures { result ≡ values text.now }
     {
         if Sheet::LONGEST < text.len() {
-            return Values::refused(Sheet::TOO_LONG, 0);
+            return Err(Blame {
+                wrong: Wrong::TooLong,
+                line: 0,
+            });
         }
-        let mut values = Values::refused(0, 0);
+        let mut values = Values::new();
         let mut line: u32 = 1;
         let mut at: usize = 0;
+        // only the line that was found says where the next one starts: a for would be no plainer
         while at <= text.len() {
             let found = split::until(Mark::LineEnd, split::from(text, at));
-            values = values.with_words(line, split::until(Mark::Note, found));
+            values = values.with_words(line, split::until(Mark::Note, found))?;
             line += 1;
-            at = at + found.len() + 1;
+            at += found.len() + 1;
         }
-        values
+        Ok(values)
     }
 }
 
@@ -113,10 +114,10 @@ fn first_wrong(text: &[u8]) -> &[u8]
         return first;
     }
     let word = split::until(Mark::Blank, first);
-    match Ordinate::of(word) {
-        Ordinate::Given(_) => first_wrong(split::past(Mark::Blank, first)),
-        Ordinate::Hole => word,
-        Ordinate::Wrong(_) => word,
+    match numeral::ordinate(word) {
+        Ok(Some(_)) => first_wrong(split::past(Mark::Blank, first)),
+        Ok(None) => word,
+        Err(_) => word,
     }
 }
 

@@ -1,6 +1,6 @@
 -- The rule of the weight sheet: one computed test of all its rows, and that each row is then its minute's weights by the formulas; where the rows of a gap begin.
 -- Assumes nothing.
-use mathlib.Core.Path.{◌≡◌, refl, ◌∙◌, ap}
+use mathlib.Core.Path.{◌≡◌, refl, ap}
 use mathlib.Core.Bool.{Bool, true, false, cond, ◌&&◌}
 use Prim.Native.Nat.{ℕ, ◌+◌, ◌*◌, ◌-◌, ◌≤◌, ◌<◌}
 use native.Mathlib.Nat.{zero-add}
@@ -18,8 +18,7 @@ use Rattle.curve.specs.Formula.{power, worth}
 use Rattle.gaps.specs.Limits.{upto}
 use Rattle.gaps.proofs.Kept.{upto_at}
 use Rattle.weight_sheet.specs.declared.Row.{Row}
-use Rattle.weight_sheet.specs.declared.Found.{Found}
-use Rattle.weight_sheet.specs.declared.Found.TheVariants.{There, Nothing}
+use Rattle.std.specs.Prelude.{Some, None}
 use Rattle.weight_sheet.specs.Sheet.{has, row, found, rows, sheet_row}
 use Rattle.weight_sheet.proofs.Numbers.{numbers}
 
@@ -77,18 +76,15 @@ pub from_60 : (t : ℕ) → t ≤ 60 → sheet_row (47 + t) ≡ row 60 t
 unfolding sheet_row
 from_60 t p = rw (le-ltb (47 + t) 16 (omega arith), le-ltb (47 + t) 47 (omega arith)) (ap (row 60) (omega arith))
 
+pub ruleset begins = (from_15, from_30, from_60)
+
 -- ---- what is found
 
--- a row, or this one where there is none
-row_or : Row → Found → Row
-row_or r (There x) = x
-row_or r Nothing = r
-
 -- a row that is found has the weights of its minute by their formulas
-pub found_row : (h t : ℕ) {r : Row} → There r ≡ found h t → r ≡ row h t
-unfolding found row_or
-found_row h t e = ap (row_or (row h t)) e ∙ either (has h t)
+pub found_row : (h t : ℕ) {r : Row} → Some r ≡ found h t → r ≡ row h t
+unfolding found
+found_row h t e = go (has h t) e
   where
-    either : (b : Bool) → row_or (row h t) (cond b (There (row h t)) Nothing) ≡ row h t
-    either true = refl
-    either false = refl
+    go : (b : Bool) {r : Row} → Some r ≡ cond b (Some (row h t)) None → r ≡ row h t
+    go true e = cc
+    go false e = cc

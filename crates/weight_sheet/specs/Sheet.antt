@@ -1,9 +1,7 @@
 -- Document 02, order 5: for which gaps and minutes the fitters' sheet has the left knot's weights, and in which row. Assumes nothing.
-use Rattle.std.specs.Prelude.{ℕ, ◌-◌, Bool, cond, ◌&&◌, ◌||◌, eqb, leb, ltb, pos}
+use Rattle.std.specs.Prelude.{ℕ, ◌-◌, Bool, cond, ◌&&◌, ◌||◌, eqb, leb, ltb, pos, Option, Some, None}
 use Rattle.curve.specs.Formula.{num, worth}
 use Rattle.weight_sheet.specs.declared.Row.{Row}
-use Rattle.weight_sheet.specs.declared.Found.{Found}
-use Rattle.weight_sheet.specs.declared.Found.TheVariants.{There, Nothing}
 use Rattle.weight_sheet.specs.Weight.{ordinate_weight, slope_weight, curvature_weight}
 
 -- the gaps of the sheet
@@ -24,8 +22,8 @@ row h t =
     }
 
 -- what the sheet has of that minute
-unfoldable pub found : ℕ → ℕ → Found
-found h t = cond (has h t) (There (row h t)) Nothing
+unfoldable pub found : ℕ → ℕ → Option Row
+found h t = cond (has h t) (Some (row h t)) None
 
 -- ---- inside
 

@@ -10,18 +10,11 @@ ghost use Rattle.weight_sheet.specs.Sheet.{rows, sheet_row, found};
 use table::NUMBERS;
 
 // What the left knot's ordinate, slope and curvature weigh at a minute.
-#[derive(Drop)]
+#[derive(Clone, Copy)]
 pub struct Row {
     pub ordinate: i32,
     pub slope: i32,
     pub curvature: i32,
-}
-
-// What the sheet has of a gap's minute.
-#[derive(Drop)]
-pub enum Found {
-    There(Row),
-    Nothing,
 }
 
 // The rows of a gap begin with this one.
@@ -33,6 +26,7 @@ const FROM_60: usize = FROM_30 + 31;
 
 impl Row {
     // Row i of the sheet.
+    #[tactic(auto, using(crate::proofs::Sheet::rule))]
     fn of(i: usize) -> Row
         requires { i < rows }
         ensures { result ≡ sheet_row i }
@@ -46,21 +40,20 @@ impl Row {
             curvature: numbers[at + 2],
         }
     }
-}
 
-impl Found {
-    // The row of minute t of a gap of h.
-    pub fn of(h: usize, t: usize) -> Found
+    // What the sheet has of minute t of a gap of h.
+    #[tactic(auto, using(crate::proofs::Sheet::begins), unfolding(crate::specs::Sheet::found))]
+    pub fn at(h: usize, t: usize) -> Option<Row>
         ensures { result ≡ found h t }
     {
         if h < t {
-            return Found::Nothing;
+            return None;
         }
         match h {
-            15 => Found::There(Row::of(FROM_15 + t)),
-            30 => Found::There(Row::of(FROM_30 + t)),
-            60 => Found::There(Row::of(FROM_60 + t)),
-            _ => Found::Nothing,
+            15 => Some(Row::of(FROM_15 + t)),
+            30 => Some(Row::of(FROM_30 + t)),
+            60 => Some(Row::of(FROM_60 + t)),
+            _ => None,
         }
     }
 }

@@ -1,6 +1,6 @@
 -- The sentences, each at the place of its number: document 01, "Numbers of refusal", and those of document 02, with what to do about each; and what can be wrong in the text of a sheet (crate `text`).
 -- README's table is this one. Assumes nothing.
-use Rattle.std.specs.Prelude.{ℕ, List, [], ◌∷◌, ◌++◌, get_or}
+use Rattle.std.specs.Prelude.{ℕ, List, [], ◌∷◌, get_or}
 use Prim.Native.String.{String}
 use Rattle.decimal.specs.Decimal.{spelled}
 use Rattle.words.specs.declared.Table.{Table}

@@ -5,8 +5,11 @@
 ghost use Rattle.std.specs.Prelude.{◌≡◌, [], ◌+◌, ◌≤◌, length, get_or};
 ghost use Rattle.decimal.specs.Put.{Put};
 ghost use Rattle.split.specs.Parts.{lines};
+ghost use Rattle.numeral.specs.Number.{number_of};
 ghost use Rattle.words.specs.Sentences.{sentence, longest};
 ghost use Rattle.words.specs.Said.{at_line, counts, at_place, refused_words, refused_line, value_line, quoted, shown, wrong_line, mended_line};
+
+use numeral::Wrong;
 
 // What a sentence is looked up in.
 #[derive(Drop)]
@@ -149,6 +152,7 @@ pub fn put_sentence(to: &mut [u8], at: usize, table: Table, n: u32) -> usize
 }
 
 // The line of a sheet, where one is to blame.
+#[tactic(auto, unfolding(crate::specs::Said::at_line, decimal::specs::Decimal::spelled), using(decimal::proofs::Puts::room_before, decimal::proofs::Puts::room_behind))]
 fn put_line(to: &mut [u8], at: usize, line: u32) -> usize
     requires { at + length (at_line line) ≤ length to.old }
     ensures { Put (at_line line) to.old to.new at result }
@@ -161,6 +165,7 @@ fn put_line(to: &mut [u8], at: usize, line: u32) -> usize
 }
 
 // What the place counts: of a line of a sheet always the knot, without one what the number says.
+#[tactic(auto, unfolding(crate::specs::Said::counts, decimal::specs::Decimal::spelled))]
 fn put_counts(to: &mut [u8], at: usize, number: u32, line: u32) -> usize
     requires { at + longest ≤ length to.old }
     ensures { Put (counts number line) to.old to.new at result }
@@ -226,6 +231,7 @@ fn put_quoted(to: &mut [u8], at: usize, word: &[u8]) -> usize
     decimal::put_words(to, closed, b"'")
 }
 
+#[tactic(auto, unfolding(crate::specs::Said::shown, decimal::specs::Decimal::spelled), using(crate::proofs::Lengths::length_plain))]
 fn put_shown(to: &mut [u8], at: usize, line: u32, word: &[u8]) -> usize
     requires { at + 34 ≤ length to.old }
     ensures { Put (shown line word.now) to.old to.new at result }
@@ -240,14 +246,14 @@ fn put_shown(to: &mut [u8], at: usize, line: u32, word: &[u8]) -> usize
 }
 
 // What is wrong in the text of a sheet, at the front of a buffer: its line, the word that is to blame, and its sentence.
-pub fn wrong_line(to: &mut [u8], wrong: u32, line: u32, word: &[u8]) -> usize
+pub fn wrong_line(to: &mut [u8], wrong: Wrong, line: u32, word: &[u8]) -> usize
     requires { 4096 ≤ length to.old }
-    ensures { Put (wrong_line wrong line word.now) to.old to.new 0 result }
+    ensures { Put (wrong_line (number_of wrong) line word.now) to.old to.new 0 result }
 {
     let after_line = put_line(to, 0, line);
     let after_word = put_shown(to, after_line, line, word);
     let next = decimal::put_words(to, after_word, b" ");
-    let end = put_sentence(to, next, Table::Wrongs, wrong);
+    let end = put_sentence(to, next, Table::Wrongs, wrong.number());
     decimal::put_byte(to, end, b'\n')
 }
 

@@ -2,59 +2,39 @@
 // of "Numbers of refusal"; document 02, order 8. It asks nothing of its caller.
 #![tactic(auto)]
 
-ghost use Rattle.std.specs.Prelude.{◌≡◌};
-ghost use Rattle.answer.specs.Judge.{verdict_of};
+ghost use Rattle.std.specs.Prelude.{◌≡◌, ℕ};
+ghost use Rattle.answer.specs.Answer.{refused};
+ghost use Rattle.answer.specs.Judge.{number_of, verdict_of};
 ghost use Rattle.curve.specs.Kind.{quintic, sloped};
 ghost use Rattle.curve.specs.Orders.{verdict, write_order};
 ghost use Rattle.knots.specs.Kinds.{kind_of};
-ghost use Rattle.knots.specs.Lent.{lent};
-ghost use Rattle.writer.specs.Promise.{Writes};
+ghost use Rattle.knots.specs.Lent.{lent, card_lent};
+ghost use Rattle.writer.specs.Promise.{Writes, written};
 
-use answer::Judged;
-use knots::Kind;
+use answer::{Judged, Refusal};
+use knots::{Kind, Lent};
 
 // 3, 1, 2, 15; per knot 4, 5, 6; 9; 10.
-fn judged(
-    kind: Kind,
-    minutes: &[u16],
-    ordinates: &[i16],
-    slopes: &[i32],
-    curvatures: &[i32],
-    left: u16,
-    right: u16,
-) -> Judged
-    ensures { verdict_of result ≡ verdict (kind_of kind) (lent minutes.now ordinates.now slopes.now curvatures.now left right) }
+fn judged(kind: Kind, card: Lent<'_>) -> Judged
+    ensures { verdict_of result ≡ verdict (kind_of kind) (card_lent card.entry) }
 {
-    let named = knots::codes(kind, left, right);
-    match knots::sized(
-        minutes.len(),
-        ordinates.len(),
-        slopes.len(),
-        curvatures.len(),
+    let named = knots::codes(kind, card.left, card.right);
+    knots::sized(
+        card.minutes.len(),
+        card.ordinates.len(),
+        card.slopes.len(),
+        card.curvatures.len(),
         named,
-    ) {
-        Judged::Refused(number, place) => Judged::Refused(number, place),
-        Judged::Accepted => lists::sound(kind, left, right, minutes, ordinates, slopes, curvatures),
-    }
+    )?;
+    lists::sound(kind, card)
 }
 
 // And 26.
-fn writable(
-    kind: Kind,
-    minutes: &[u16],
-    ordinates: &[i16],
-    slopes: &[i32],
-    curvatures: &[i32],
-    left: u16,
-    right: u16,
-    bytes: usize,
-) -> Judged
-    ensures { verdict_of result ≡ write_order (kind_of kind) (lent minutes.now ordinates.now slopes.now curvatures.now left right) bytes }
+fn writable(kind: Kind, card: Lent<'_>, bytes: usize) -> Judged
+    ensures { verdict_of result ≡ write_order (kind_of kind) (card_lent card.entry) bytes }
 {
-    match judged(kind, minutes, ordinates, slopes, curvatures, left, right) {
-        Judged::Refused(number, place) => Judged::Refused(number, place),
-        Judged::Accepted => knots::room(14 + 16 * minutes.len(), bytes),
-    }
+    judged(kind, card)?;
+    knots::room(14 + 16 * card.minutes.len(), bytes)
 }
 
 // Number and place, and how many bytes were written; zeros behind a refusal.
@@ -66,45 +46,31 @@ pub struct Written {
     pub bytes: u32,
 }
 
-// On acceptance the bytes of the card of a kind are written, and the rest of the buffer stays.
-fn write_as(
-    kind: Kind,
-    minutes: &[u16],
-    ordinates: &[i16],
-    slopes: &[i32],
-    curvatures: &[i32],
-    left: u16,
-    right: u16,
-    buffer: &mut [u8],
-) -> Written
-    ensures { Writes (kind_of kind)
-        (lent minutes.now ordinates.now slopes.now curvatures.now left right)
-        buffer.old buffer.new result }
-{
-    let verdict = writable(
-        kind,
-        minutes,
-        ordinates,
-        slopes,
-        curvatures,
-        left,
-        right,
-        buffer.len(),
-    );
-    if let Judged::Refused(number, place) = verdict {
-        return Written {
-            number,
-            place,
+impl From<Refusal> for Written {
+    ghost from_gives = { λ r w. (bytes : ℕ) → w ≡ written (refused (number_of r.reason) r.place) bytes };
+
+    #[tactic(auto, unfolding(crate::specs::Promise::written))]
+    fn from(refusal: Refusal) -> Written {
+        Written {
+            number: refusal.number(),
+            place: refusal.place,
             bytes: 0,
-        };
+        }
     }
-    encode::put_card(
-        kind, minutes, ordinates, slopes, curvatures, left, right, buffer,
-    );
+}
+
+// On acceptance the bytes of the card of a kind are written, and the rest of the buffer stays.
+fn write_as(kind: Kind, card: Lent<'_>, buffer: &mut [u8]) -> Written
+    ensures { Writes (kind_of kind) (card_lent card.entry) buffer.old buffer.new result }
+{
+    if let Err(refusal) = writable(kind, card, buffer.len()) {
+        return Written::from(refusal);
+    }
+    encode::put_card(kind, card, buffer);
     Written {
         number: 0,
         place: 0,
-        bytes: (14 + 16 * minutes.len()) as u32,
+        bytes: (14 + 16 * card.minutes.len()) as u32,
     }
 }
 
@@ -121,16 +87,15 @@ pub fn write(
         (lent minutes.now ordinates.now slopes.now curvatures.now left right)
         buffer.old buffer.new result }
 {
-    write_as(
-        Kind::quintic(),
+    let card = Lent {
         minutes,
         ordinates,
         slopes,
         curvatures,
         left,
         right,
-        buffer,
-    )
+    };
+    write_as(Kind::quintic(), card, buffer)
 }
 
 // Order 8's, whose codes are both 0.
@@ -145,14 +110,13 @@ pub fn write_slopes(
         (lent minutes.now ordinates.now slopes.now curvatures.now 0 0)
         buffer.old buffer.new result }
 {
-    write_as(
-        Kind::sloped(),
+    let card = Lent {
         minutes,
         ordinates,
         slopes,
         curvatures,
-        0,
-        0,
-        buffer,
-    )
+        left: 0,
+        right: 0,
+    };
+    write_as(Kind::sloped(), card, buffer)
 }

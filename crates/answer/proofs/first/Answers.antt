@@ -1,11 +1,14 @@
 -- `answer::first` meets its contract. Assumes nothing.
-use mathlib.Core.Path.{refl}
-use borrow.Author.Rules.{rules}
-use Rattle.answer.proofs.Chain.{step_refuses, step_passes}
+use Rattle.std.proofs.Common.{◌≡◌, Ok, Err, refl, ap, ◌∙◌}
+use Rattle.std.specs.Result.{result_and}
+use Rattle.answer.specs.Answer.{◌then◌}
+use Rattle.answer.specs.Judge.{Judged, verdict_of}
 use Rattle.answer.proofs.first.Goals as goal
 
-pub returns-in-Accepted : goal.returns-in-Accepted
-returns-in-Accepted c = step_passes _ refl c.in-Accepted.is refl
+then_and : (step next : Judged) → verdict_of (result_and step next) ≡ (verdict_of step then verdict_of next)
+unfolding ◌then◌
+then_and (Ok u) next = refl
+then_and (Err r) next = refl
 
-pub returns-in-Refused : goal.returns-in-Refused
-returns-in-Refused c = step_refuses _ refl c.in-Refused.is
+pub returns : goal.returns
+returns c = ap verdict_of c.and.ensures ∙ then_and c.args.step c.args.next

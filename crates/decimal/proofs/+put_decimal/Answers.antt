@@ -1,5 +1,5 @@
 -- `decimal::put_decimal` meets its contract: the digits of a tenth, and one more behind them. Assumes nothing.
-use Prim.Native.Nat.{◌/◌, ◌<◌}
+use Prim.Native.Nat.{◌/◌}
 use mathlib.Core.Path.{ap}
 use native.Mathlib.Omega.{arith}
 use lib.ListN.{length}

@@ -4,7 +4,6 @@ use native.Mathlib.Omega.{arith}
 use Rattle.decimal.specs.Decimal.{signed, field}
 use Rattle.decimal.proofs.Puts.{put_then, room_before, room_behind}
 use Rattle.decimal.proofs.Minus.{passed}
-use borrow.Author.Rules.{rules}
 use Rattle.decimal.proofs.put_field.Goals as goal
 use Rattle.decimal.proofs.put_field.Goals.{After-put_signed-next, Start}
 

@@ -5,14 +5,13 @@ use lib.IntN.{nat_abs}
 use Rattle.decimal.specs.Decimal.{decimal, minus}
 use Rattle.decimal.proofs.Puts.{put_then, room_before, room_behind}
 use Rattle.decimal.proofs.Minus.{passed, negative, not_negative}
-use borrow.Author.Rules.{rules}
 use Rattle.decimal.proofs.put_signed.Goals as goal
 use Rattle.decimal.proofs.put_signed.Goals.{After-magnitude-2, After-put_byte-next, Start}
 
 pub put_byte-next-requires : goal.put_byte-next-requires
 put_byte-next-requires c =
     let a = (goal.at.put_byte-next-requires c).Start in
-    let t = (negative _ a.ranges.number c.if-number-lt0.true).text in
+    let t = (negative _ a.ranges.number c.if-number-lt0.true) in
     omega (arith, room_before (minus ∷ []) (decimal (nat_abs a.args.number)) a.args.at (rw t at a.requires))
 
 pub put_decimal-requires : goal.put_decimal-requires
@@ -20,7 +19,7 @@ put_decimal-requires c =
     let q = (goal.at.put_decimal-requires c).After-put_byte-next in
     let a = (goal.at.After-put_byte-next q).Start in
     let f = a.ranges.number in
-    let t = (negative _ f q.if-number-lt0.true).text in
+    let t = (negative _ f q.if-number-lt0.true) in
     rw (c.magnitude.ensures, passed _ f) (room_behind q.put_byte-next.ensures (decimal (nat_abs a.args.number)) (rw t at a.requires))
 
 pub returns-then-number-lt0 : goal.returns-then-number-lt0
@@ -28,7 +27,7 @@ returns-then-number-lt0 c =
     let q = (goal.at.returns-then-number-lt0 c).After-put_byte-next in
     let a = (goal.at.After-put_byte-next q).Start in
     let f = a.ranges.number in
-    rw ((negative _ f q.if-number-lt0.true).text, ← passed _ f, ← c.magnitude.ensures)
+    rw ((negative _ f q.if-number-lt0.true), ← passed _ f, ← c.magnitude.ensures)
     (put_then q.put_byte-next.ensures c.put_decimal.ensures)
 
 pub put_decimal-requires-2 : goal.put_decimal-requires-2

@@ -1,7 +1,6 @@
 -- `decimal::put_worded` meets its contract: the words, and the number behind them. Assumes nothing.
 use Rattle.decimal.specs.Decimal.{decimal}
 use Rattle.decimal.proofs.Puts.{put_then, room_before, room_behind}
-use borrow.Author.Rules.{rules}
 use Rattle.decimal.proofs.put_worded.Goals as goal
 use Rattle.decimal.proofs.put_worded.Goals.{Start}
 

@@ -11,7 +11,7 @@ use mir.Syntax.{w16, w32}
 use Rattle.little_endian.proofs.Signs.{passed}
 use Rattle.little_endian.proofs.Stores.{then}
 use Rattle.curve.specs.Card.{knots, knot}
-use Rattle.knots.specs.Lent.{lent}
+use Rattle.knots.specs.Lent.{card_lent}
 use Rattle.card_bytes.specs.Bytes.{head_bytes, end_bytes, rows, knot_row, bytes_of}
 use Rattle.card_bytes.specs.Held.{start}
 use Rattle.card_bytes.proofs.Rows.{rows_more}
@@ -19,7 +19,4 @@ use Rattle.card_bytes.proofs.Sizes.{length_head, length_knots}
 use Rattle.encode.proofs.put_card.Given as goal
 
 abbrev pub invariant-loop-row : goal.invariant-loop-row
-invariant-loop-row l = (l.row ≤ l.n) × (length l.buffer ≡ length l.initial.buffer) × (l.buffer ≡ sets l.initial.buffer 10 (rows (knot_row (lent l.minutes l.ordinates l.slopes l.curvatures l.left l.right)) 0 l.row))
-
-abbrev pub decreases-loop-row : goal.decreases-loop-row
-decreases-loop-row l = l.n - l.row
+invariant-loop-row l = (l.row ≤ l.n) × (length l.buffer ≡ length l.initial.buffer) × (l.buffer ≡ sets l.initial.buffer 10 (rows (knot_row (card_lent l.card)) 0 l.row))

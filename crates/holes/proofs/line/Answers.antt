@@ -1,13 +1,12 @@
 -- `holes::line` meets its contract: sum and value fit their widths.
 -- Assumes nothing.
 use mathlib.Core.Path.{◌≡◌, ap, ◌∙◌}
-use Prim.Native.Nat.{◌+◌, ◌*◌}
+use Prim.Native.Nat.{◌+◌}
 use native.Mathlib.Omega.{arith}
 use lib.IntN.{pos, ◌+ℤ◌, ◌*ℤ◌}
 use mir.Syntax.{w16, w64}
 use mir.Val.{to_z, of_z}
 use mir.Facts.{to_z-of_z}
-use borrow.Author.Rules.{rules}
 use Rattle.whole.specs.Whole.{nearest}
 use Rattle.curve.specs.Kind.{quintic}
 use Rattle.whole.proofs.Widened.{widened_fits, widened_is}

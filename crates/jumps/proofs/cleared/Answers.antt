@@ -3,7 +3,6 @@
 use mathlib.Core.Path.{◌≡◌, sym, ◌∙◌, ap}
 use mathlib.Core.Bool.{true, false}
 use mathlib.Core.List.{List, [], ◌∷◌}
-use borrow.Author.Rules.{rules}
 use lib.Dec.{T}
 use lib.IntN.{pos, nat_abs}
 use lib.Signed.{◌≤ℤ◌, lt_z}

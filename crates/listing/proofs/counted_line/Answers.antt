@@ -7,7 +7,6 @@ use Rattle.decimal.specs.Decimal.{field}
 use Rattle.decimal.specs.Put.{Put}
 use Rattle.decimal.proofs.Puts.{put_then, room_before, room_behind}
 use Rattle.listing.specs.Text.{space, line_feed, four_fields, counted_line}
-use borrow.Author.Rules.{rules}
 use Rattle.listing.proofs.counted_line.Goals as goal
 use Rattle.listing.proofs.counted_line.Goals.{After-four_fields-next, Start}
 

@@ -11,7 +11,6 @@ use Rattle.decimal.specs.Decimal.{field}
 use Rattle.listing.specs.Text.{space, four_fields}
 use Rattle.decimal.proofs.Puts.{put_then, room_before, room_behind}
 use Rattle.decimal.proofs.Widths.{wide, widened}
-use borrow.Author.Rules.{rules}
 use Rattle.listing.proofs.four_fields.Goals as goal
 use Rattle.listing.proofs.four_fields.Goals.{After-put_field-after_m, After-put_field-after_x, After-put_field-after_y, Start}
 

@@ -1,7 +1,6 @@
 -- `listing::knot_line` meets its contract: four fields, and the line's end. Assumes nothing.
 use mir.Facts.{to_z-of_z}
 use Rattle.listing.specs.Text.{knot_line}
-use borrow.Author.Rules.{rules}
 use Rattle.listing.proofs.knot_line.Goals as goal
 use Rattle.listing.proofs.knot_line.Goals.{Start}
 

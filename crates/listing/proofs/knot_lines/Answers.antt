@@ -1,5 +1,5 @@
 -- `listing::knot_lines` meets its contract. The loop's invariant: the lines of the first i knots stand in the buffer. Assumes nothing.
-use Prim.Native.Nat.{◌-◌, ◌≤◌}
+use Prim.Native.Nat.{◌≤◌}
 use mathlib.Core.Path.{◌≡◌, sym}
 use native.Mathlib.Numerals.{add-one}
 use native.Mathlib.Omega.{arith}
@@ -8,7 +8,7 @@ use lib.ListN.{length, get_or}
 use mir.Syntax.{w16, w32}
 use mir.Val.{to_z, of_z}
 use Rattle.little_endian.proofs.Signs.{passed}
-use Rattle.listing.specs.Text.{listed_line, lines, line_of, longest_line, Lines}
+use Rattle.listing.specs.Text.{listed_line, lines, line_of, longest_line}
 use Rattle.decimal.proofs.Puts.{put_none, put_then, same_room}
 use Rattle.decimal.proofs.Widths.{wide, widened}
 use Rattle.listing.proofs.Lengths.{length_listed_line}
@@ -18,7 +18,7 @@ use Rattle.listing.proofs.knot_lines.Goals.{After-faults_at, At-loop-i}
 
 pub loop-i-init : goal.loop-i-init
 unfolding lines
-loop-i-init c = (omega arith, record { put = put_none (omega arith); short = omega arith })
+loop-i-init c = record { put = put_none (omega arith); short = omega arith }
 
 -- the numbers of the lists, as a call passes them on
 line_is : (c : After-faults_at)
@@ -47,7 +47,7 @@ line_short c =
     let y = c.listed_line-arg-in-loop-i-1.given in
     let m = c.listed_line-arg-in-loop-i-2-1.given in
     let M = c.listed_line-arg-in-loop-i-3-1.given in
-    length_listed_line _ _ _ _ _ (omega arith) (record { sfits = omega arith }) (record { sfits = m }) (record { sfits = M }) (rw (sym c.faults_at.ensures) (omega (arith, c.faults_at.type_inv)))
+    length_listed_line _ _ _ _ _ (omega arith) (record { sfits = omega arith }) (record { sfits = m }) (record { sfits = M }) (rw (sym c.faults_at.ensures) (let h = c.faults_at.type_inv in search rules))
 
 pub overflow_cast-ordinates : goal.overflow_cast-ordinates
 overflow_cast-ordinates c =
@@ -57,21 +57,21 @@ overflow_cast-ordinates c =
 pub listed_line-next-requires : goal.listed_line-next-requires
 listed_line-next-requires c =
     let l = (goal.at.listed_line-next-requires c).At-loop-i in
-    let i = l.loop-i.invariant.1 in
+    let i = l.loop-i.invariant in
     rw (line_is c) (omega (arith, line_short c, i.short, same_room i.put, l.requires.minutes_in_bounds))
 
 pub loop-i-preserved : goal.loop-i-preserved
 unfolding lines
 loop-i-preserved c =
     let k = (goal.at.loop-i-preserved c).After-faults_at in
-    let i = k.loop-i.invariant.1 in
+    let i = k.loop-i.invariant in
     let p = rw (line_is k) at c.listed_line-next.ensures in
-    (omega arith, record { put = rw add-one (put_then i.put p); short = omega (arith, line_short k, i.short, p.behind) })
+    record { put = rw add-one (put_then i.put p); short = omega (arith, line_short k, i.short, p.behind) }
 
 pub shape_of-text : goal.shape_of-text
-shape_of-text c = same_room c.loop-i.invariant.1.put
+shape_of-text c = same_room c.loop-i.invariant.put
 
 pub returns : goal.returns
 returns c =
     let e : c.loop-i.i ≡ length c.args.minutes.now = omega arith in
-    rw e at c.loop-i.invariant.1
+    rw e at c.loop-i.invariant

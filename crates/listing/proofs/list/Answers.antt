@@ -4,7 +4,6 @@ use native.Mathlib.Omega.{arith}
 use lib.ListN.{length}
 use Rattle.decimal.proofs.Puts.{put_then, same_room}
 use Rattle.listing.proofs.Lengths.{refused_listing, accepted_listing, length_refused_line, length_ok_line}
-use borrow.Author.Rules.{rules}
 use Rattle.listing.proofs.list.Goals as goal
 use Rattle.listing.proofs.list.Goals.{After-knot_lines-next, After-refused_line, Start}
 

@@ -1,13 +1,11 @@
 -- `minutes::find` meets its contract: what is left to look through decides what is found.
 -- Assumes nothing.
-use mathlib.Core.Path.{◌≡◌, refl, sym, ◌∙◌, subst}
+use mathlib.Core.Path.{◌≡◌}
 use mathlib.Core.List.{List}
-use Prim.Native.Nat.{ℕ, zero, suc, ◌+◌, ◌-◌, ◌/◌, ◌≤◌, ◌<◌}
-use native.Mathlib.Omega.{arith}
-use lib.ListN.{length, get_or}
+use Prim.Native.Nat.{ℕ, ◌+◌, ◌≤◌, ◌<◌}
+use lib.ListN.{length}
 use Rattle.minutes.specs.declared.Left.{Left}
-use Rattle.minutes.specs.Search.{middle, look, looking, every_gap, found}
-use Rattle.minutes.proofs.Halving.{Kept, kept, looking_next, looking_end}
+use Rattle.minutes.specs.Search.{looking, found}
 use Rattle.minutes.proofs.find.Given as goal
 
 pub record Inv (xs : List ℕ) (minute : ℕ) (l : Left) : Type 0 where

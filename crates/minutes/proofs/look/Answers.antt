@@ -1,6 +1,5 @@
 -- `minutes::look` meets its contract.
 -- Assumes nothing.
-use borrow.Author.Rules.{rules}
 use borrow.Author.Tests.{lt-ltb, le-ltb}
 use Rattle.minutes.specs.Search.{middle, look}
 use Rattle.minutes.proofs.look.Goals as goal

@@ -1,64 +1,51 @@
 -- `passes::forward_pass` meets its contract. Assumes nothing.
-use borrow.Author.Rules.{rules}
-use Prim.Native.Nat.{ℕ, suc, ◌-◌, ◌≤◌, ◌<◌, zero-le}
-use native.Mathlib.Numerals.{add-one}
-use native.Mathlib.Omega.{arith}
-use mathlib.Core.Path.{◌≡◌, refl, sym, ap, ◌∙◌}
-use lib.ListN.{length, get_or, length-set}
-use borrow.Author.Count.{below_none}
-use Rattle.elimination.specs.declared.Step.TheVariants.{Went, Stuck}
-use Rattle.passes.specs.Sheet.{most, left_gap}
-use Rattle.passes.specs.Jobs.{step_by}
-use Rattle.passes.specs.Forward.{going, run_to, state_at, left_by, number_of, place_of, no_state}
+use Rattle.std.specs.Option.{ok_or}
+use Rattle.std.proofs.Common.{◌≡◌, length, Err, arith, sym, ap, ◌∙◌, add-one, below_none}
+use Rattle.std.proofs.lemmas.Result.{err_from_is_err_and}
 use Rattle.front.proofs.Listed.{grown_up}
-use Rattle.passes.proofs.Runs.{goes_on, stays_stuck, knot_is}
+use Rattle.passes.specs.Sheet.{left_gap}
+use Rattle.passes.specs.Jobs.{step_by}
+use Rattle.passes.specs.Forward.{going, run_to, state_at, left_by, judged_of, no_state}
+use Rattle.passes.proofs.Runs.{goes_on_by, stuck_by, knot_is}
 use Rattle.passes.proofs.forward_pass.Goals as goal
+use Rattle.passes.proofs.forward_pass.Goals.{After-branch-before}
 
 pub loop-i-init : goal.loop-i-init
 unfolding run_to left_gap
-loop-i-init c = (zero-le, refl, ap going (sym c.start-zero.ensures), c.empty_gap-p.ensures, below_none _)
+loop-i-init c = record { run = ap going (sym c.start-before.ensures); left = c.empty_gap-p.ensures; states = below_none _ }
 
-pub returns-in-Stuck : goal.returns-in-Stuck
-returns-in-Stuck c =
-    let s = c.args in
-    let l = c.loop-i in
-    let minutes = s.minutes.now in
-    let ordinates = s.ordinates.now in
-    let slopes = s.slopes.now in
-    let step = step_by minutes ordinates slopes s.job in
-    let many : length slopes ≡ length minutes = c.requires.minutes_len_bound.2 in
-    let known = knot_is minutes ordinates slopes s.job l.p c.gap_after-g.result l.before l.i many l.invariant.3 c.gap_after-g.ensures in
-    let knot = c.knot_by-x.ensures ∙ known in
-    let r = goes_on step l.i l.before Stuck l.invariant.2 (sym c.in-Stuck.is ∙ knot) in
-    let e = stays_stuck step (suc l.i) l.i r (length minutes) c.loop-i-test.true in
-    record { number_is = sym (ap number_of e); place_is = sym (ap place_of e); states_are = λ k z p. absurd (omega arith) }
+knot : (c : After-branch-before) → c.knot_by.result ≡ step_by c.args.minutes.now c.args.ordinates.now c.args.slopes.now c.args.job c.loop-i.before c.loop-i.i
+knot c =
+    c.knot_by.ensures
+    ∙ knot_is c.args.minutes.now c.args.ordinates.now c.args.slopes.now c.args.job c.loop-i.p c.gap_after-g.result c.loop-i.before c.loop-i.i
+    c.requires.minutes_len_bound.2 c.loop-i.invariant.left c.gap_after-g.ensures
+
+pub returns-in_err-before : goal.returns-in_err-before
+returns-in_err-before c =
+    let p = err_from_is_err_and c.from_residual.result c.from_residual.ensures.1 in
+    let was = sym (c.ok_or.ensures.value ∙ ap (ok_or c.knot_by.result) c.stuck.ensures) ∙ c.in_err-before.was in
+    record {
+      answer = p.1 ∙ ap Err p.2 ∙ stuck_by _ _ _ _ _ _ c.loop-i.invariant.run (knot (goal.at.returns-in_err-before c).After-branch-before) was c.loop-i-test.true;
+      states_are = λ k z h. let none = sym p.1 ∙ z in cc;
+    }
 
 pub loop-i-preserved : goal.loop-i-preserved
 unfolding left_gap
 loop-i-preserved c =
     let s = c.args in
     let l = c.loop-i in
-    let minutes = s.minutes.now in
-    let ordinates = s.ordinates.now in
-    let slopes = s.slopes.now in
-    let step = step_by minutes ordinates slopes s.job in
-    let many : length slopes ≡ length minutes = c.requires.minutes_len_bound.2 in
-    let known = knot_is minutes ordinates slopes s.job l.p c.gap_after-g.result l.before l.i many l.invariant.3 c.gap_after-g.ensures in
-    let knot = c.knot_by-x.ensures ∙ known in
-    let under : l.i < length minutes = c.loop-i-test.true in
-    let most-holds : length minutes ≤ most = c.requires.minutes_len_bound.0 in
-    let r = goes_on step l.i l.before (Went c.in-Went.s) l.invariant.2 (sym c.in-Went.is ∙ knot) in (
-      omega arith,
-      simp length-set l.invariant.1,
-      rw add-one r,
-      rw add-one c.gap_after-g.ensures,
-      grown_up (state_at step) l.states l.i c.in-Went.s no_state (omega arith) (ap left_by r) l.invariant.4,
-    )
+    let r = goes_on_by _ _ _ _ _ _ l.invariant.run (knot (goal.at.loop-i-preserved c).After-branch-before) (sym c.ok_or.ensures.value ∙ c.in_ok-before.was) in
+    record {
+      run = rw add-one r;
+      left = rw add-one c.gap_after-g.ensures;
+      states = grown_up (state_at (step_by s.minutes.now s.ordinates.now s.slopes.now s.job)) l.states l.i _ no_state (omega arith) (ap left_by r) l.invariant.states;
+    }
 
 pub returns : goal.returns
 returns c =
     let s = c.args in
-    let l = c.loop-i in
-    let i-is : l.i ≡ length s.minutes.now = omega arith in
-    let e = ap (run_to (step_by s.minutes.now s.ordinates.now s.slopes.now s.job)) (sym i-is) ∙ l.invariant.2 in
-    record { number_is = sym (ap number_of e); place_is = sym (ap place_of e); states_are = λ k z p. l.invariant.4 k (omega arith) }
+    let all : c.loop-i.i ≡ length s.minutes.now = omega arith in
+    record {
+      answer = sym (ap judged_of (ap (run_to (step_by s.minutes.now s.ordinates.now s.slopes.now s.job)) (sym all) ∙ c.loop-i.invariant.run));
+      states_are = λ k z h. c.loop-i.invariant.states k (omega arith);
+    }

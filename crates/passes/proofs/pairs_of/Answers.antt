@@ -1,89 +1,80 @@
--- `passes::pairs_of` meets its contract: forward, and then the way back, knot by knot from the last. Assumes
--- nothing.
-use borrow.Author.Rules.{rules}
-use Prim.Native.Nat.{ℕ, suc, ◌-◌, ◌≤◌, ◌<◌, zero-le}
-use native.Mathlib.Numerals.{add-one}
-use native.Mathlib.Omega.{arith}
-use mathlib.Core.Path.{◌≡◌, refl, sym, ap, ap₂, ◌∙◌}
-use mathlib.Core.Bool.{true, false}
-use mathlib.Core.List.{List}
-use lib.ListN.{length, get_or, length-set, get_or-replicate}
+-- `passes::pairs_of` meets its contract: forward, and then the way back, knot by knot from the last. Assumes nothing.
+use Rattle.std.proofs.Common.{◌≡◌, ℕ, suc, ◌-◌, ◌<◌, length, get_or, Err, List, arith, true, false, length-set, refl, sym, ap, ap₂, ◌∙◌, add-one}
+use Rattle.std.proofs.lemmas.List.{get_or-replicate}
+use Rattle.std.proofs.lemmas.Result.{err_from_is_err_and}
 use Rattle.elimination.specs.declared.State.{State}
-use Rattle.passes.specs.declared.Forward.{Forward}
+use Rattle.front.specs.Front.{listed}
+use Rattle.front.proofs.Listed.{is_listed, grown_down}
 use Rattle.passes.specs.Sheet.{most}
 use Rattle.passes.specs.Jobs.{step_by, turn_by}
 use Rattle.passes.specs.Forward.{no_state}
 use Rattle.passes.specs.Back.{back, pair_of, back_to, pair_at, no_pair}
-use Rattle.front.specs.Front.{listed}
 use Rattle.passes.specs.Passes.{returned, back_from, passes}
-use Rattle.front.proofs.Listed.{is_listed, grown_down}
 use Rattle.passes.proofs.Answers.{forward_then_back, stuck_forward}
 use Rattle.passes.proofs.Backs.{goes_on, stays_stopped, pair_here, zeros_behind}
-use Rattle.passes.proofs.pairs_of.Invariants.{at}
 use Rattle.passes.proofs.pairs_of.Goals as goal
-use Rattle.passes.proofs.pairs_of.Goals.{Else-f-ne0}
+use Rattle.passes.proofs.pairs_of.Goals.{After-no_pair-next}
 
-pub returns-then-f-ne0 : goal.returns-then-f-ne0
-returns-then-f-ne0 c = c.refuse.ensures ∙ stuck_forward _ _ _ _ c.forward_pass-f.ensures c.if-f-ne0.true
+-- the state of knot k
+abbrev at : List State → ℕ → State
+at states k = get_or states k no_state
+
+pub returns-in_err-forward_pass : goal.returns-in_err-forward_pass
+returns-in_err-forward_pass c =
+    let p = err_from_is_err_and c.from_residual.result c.from_residual.ensures.1 in
+    p.1 ∙ ap Err p.2 ∙ stuck_forward _ _ _ c.forward_pass.ensures _ c.in_err-forward_pass.was
 
 pub loop-j-init : goal.loop-j-init
 unfolding back_to
 loop-j-init c =
-    let s = c.args in
-    let f = c.forward_pass-f.result in
-    let zero = c.no_pair-zero.ensures in
-    (zero-le, refl, ap back (sym zero), (λ k p q. get_or-replicate most k c.no_pair-zero.result no_pair q ∙ zero ∙ sym (zeros_behind (turn_by s.job) (at f) (length s.minutes.now) k (omega arith))))
+    let zero = c.no_pair-next.ensures in
+    record {
+      way = ap back (sym zero);
+      room = refl;
+      pairs = λ k p q. get_or-replicate most k c.no_pair-next.result no_pair q ∙ zero ∙ sym (zeros_behind (turn_by c.args.job) (at c.forward_pass.new.states) (length c.args.minutes.now) k (omega arith));
+    }
 
--- what the way back leaves is what both passes leave
-whole : (c : Else-f-ne0)
+-- the way back from the states is both passes
+whole : (c : After-no_pair-next)
     → (let s = c.args in
-    back_from (turn_by s.job) (at c.forward_pass-f.result) (length s.minutes.now)
+    back_from (turn_by s.job) (at c.forward_pass.new.states) (length s.minutes.now)
     ≡ passes (step_by s.minutes.now s.ordinates.now s.slopes.now s.job) (turn_by s.job) (length s.minutes.now))
-whole c = forward_then_back _ _ _ _ c.forward_pass-f.ensures (omega (arith, c.if-f-ne0.false))
+whole c = forward_then_back _ _ _ c.forward_pass.ensures c.in_ok-forward_pass.was
 
-pub returns-else-finite_pair : goal.returns-else-finite_pair
+pub returns-then-not-finite_pair : goal.returns-then-not-finite_pair
 unfolding back_from
-returns-else-finite_pair c =
-    let e1 = (goal.at.returns-else-finite_pair c).Else-f-ne0 in
-    let s = e1.args in
+returns-then-not-finite_pair c =
+    let s = c.args in
     let l = c.loop-j in
     let n = length s.minutes.now in
-    let states = at e1.forward_pass-f.result in
-    let v = c.pair_before-v.result in
+    let states = at c.forward_pass.new.states in
     let under : l.j < n = c.loop-j-test.true in
-    let r = goes_on (turn_by s.job) states n l.j l.next v false l.invariant.2 c.pair_before-v.ensures (sym c.finite_pair.ensures ∙ c.if-finite_pair.false) in
+    let r = goes_on (turn_by s.job) states n l.j l.next _ false l.invariant.way c.pair_before-next.ensures (sym c.finite_pair.ensures ∙ c.if-not-finite_pair.true) in
     let e = stays_stopped (turn_by s.job) states n (suc l.j) (n - 1 - l.j) r n under in
-    c.refuse-else-finite_pair.ensures ∙ sym (ap (λ x. returned x (listed (pair_at (turn_by s.job) states n) most)) e) ∙ whole e1
+    ap Err c.stuck.ensures ∙ sym (ap (λ x. returned x (listed (pair_at (turn_by s.job) states n) most)) e) ∙ whole (goal.at.returns-then-not-finite_pair c).After-no_pair-next
 
 pub loop-j-preserved : goal.loop-j-preserved
 loop-j-preserved c =
-    let e1 = (goal.at.loop-j-preserved c).Else-f-ne0 in
-    let s = e1.args in
+    let s = c.args in
     let l = c.loop-j in
     let n = length s.minutes.now in
-    let states = at e1.forward_pass-f.result in
-    let v = c.pair_before-v.result in
+    let states = at c.forward_pass.new.states in
+    let v = c.pair_before-next.result in
     let under : l.j < n = c.loop-j-test.true in
-    let r = goes_on (turn_by s.job) states n l.j l.next v true l.invariant.2 c.pair_before-v.ensures (sym c.finite_pair.ensures ∙ c.if-finite_pair.true) in
+    let r = goes_on (turn_by s.job) states n l.j l.next v true l.invariant.way c.pair_before-next.ensures (sym c.finite_pair.ensures ∙ c.if-not-finite_pair.false) in
     let k = n - 1 - l.j in
-    let room : k < length l.pairs = omega (arith, e1.requires.minutes_len_bound) in
-    let above : (i : ℕ) → k < i → i < most → get_or l.pairs i no_pair ≡ pair_at (turn_by s.job) states n i = λ i p q. l.invariant.3 i (omega arith) q in
-    let down = grown_down (pair_at (turn_by s.job) states n) l.pairs most k v no_pair room (pair_here (turn_by s.job) states n l.j under ∙ ap pair_of r) above in (
-      omega arith,
-      simp length-set l.invariant.1,
-      rw add-one r,
-      (λ i p q. down i (omega arith) q),
-    )
+    let above : (i : ℕ) → k < i → i < most → get_or l.pairs i no_pair ≡ pair_at (turn_by s.job) states n i = λ i p q. l.invariant.pairs i (omega arith) q in
+    let down = grown_down (pair_at (turn_by s.job) states n) l.pairs most k v no_pair (omega (arith, c.requires.minutes_len_bound)) (pair_here (turn_by s.job) states n l.j under ∙ ap pair_of r) above in
+    record { way = rw add-one r; room = length-set l.pairs k v ∙ l.invariant.room; pairs = λ i p q. down i (omega arith) q }
 
 pub returns : goal.returns
 unfolding back_from
 returns c =
-    let e1 = (goal.at.returns c).Else-f-ne0 in
-    let s = e1.args in
+    let s = c.args in
     let l = c.loop-j in
     let n = length s.minutes.now in
-    let states = at e1.forward_pass-f.result in
-    let j-is : l.j ≡ n = omega arith in
-    let e = ap (back_to (turn_by s.job) states n) (sym j-is) ∙ l.invariant.2 in
-    let all = is_listed (pair_at (turn_by s.job) states n) no_pair most l.pairs l.invariant.1 (λ k p. l.invariant.3 k (omega arith) p) in
-    sym (ap₂ returned e (sym all)) ∙ whole e1
+    let states = at c.forward_pass.new.states in
+    let all : l.j ≡ n = omega arith in
+    let e = ap (back_to (turn_by s.job) states n) (sym all) ∙ l.invariant.way in
+    let pairs = is_listed (pair_at (turn_by s.job) states n) no_pair most l.pairs l.invariant.room (λ k p. l.invariant.pairs k (omega arith) p) in
+    sym (ap₂ returned e (sym pairs)) ∙ whole (goal.at.returns c).After-no_pair-next

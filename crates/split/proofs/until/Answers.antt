@@ -1,8 +1,6 @@
 -- `split::until` meets its contract. Assumes nothing.
-use mathlib.Core.Path.{sym, ap}
-use lib.ListN.{take}
+use mathlib.Core.Path.{sym}
 use lib.Seq.{length-take-le}
-use borrow.Author.Rules.{rules}
 use Rattle.split.proofs.Stops.{stop_le}
 use Rattle.split.proofs.until.Goals as goal
 

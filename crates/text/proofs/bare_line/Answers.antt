@@ -1,7 +1,6 @@
 -- `text::bare_line` meets its contract. Assumes nothing.
 use mathlib.Core.Path.{ap, ◌∙◌}
 use lib.Seq.{drop-length}
-use borrow.Author.Rules.{rules}
 use Rattle.split.specs.Parts.{bare}
 use Rattle.text.proofs.Lines.{no_line, line_of_number}
 use Rattle.text.proofs.bare_line.Goals as goal

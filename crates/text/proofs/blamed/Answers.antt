@@ -1,6 +1,5 @@
 -- `text::blamed` meets its contract. Assumes nothing.
 use mathlib.Core.Path.{ap, ◌∙◌}
-use borrow.Author.Rules.{rules}
 use Rattle.split.specs.Parts.{words}
 use Rattle.text.specs.Sheet.{blamed_by}
 use Rattle.text.proofs.blamed.Goals as goal

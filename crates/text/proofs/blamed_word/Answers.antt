@@ -1,6 +1,5 @@
 -- `text::blamed_word` meets its contract, word by word. Assumes nothing.
 use mathlib.Core.Path.{◌≡◌, ap, ◌∙◌}
-use borrow.Author.Rules.{rules}
 use Rattle.split.specs.Parts.{past}
 use Rattle.split.specs.declared.Mark.TheVariants.{Blank, Word}
 use Rattle.text.proofs.Blames.{blames_none, blames_one, blames_two, blames_three, blames_four}

@@ -1,6 +1,5 @@
 -- `text::log_name` meets its contract. Assumes nothing.
 use mathlib.Core.Path.{ap, ◌∙◌}
-use borrow.Author.Rules.{rules}
 use Rattle.split.specs.Parts.{words}
 use Rattle.text.specs.Sheet.{named_by}
 use Rattle.text.proofs.log_name.Goals as goal

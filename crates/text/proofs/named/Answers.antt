@@ -1,7 +1,6 @@
 -- `text::named` meets its contract, by the word's first byte. Assumes nothing.
 use mathlib.Core.Path.{sym, ◌∙◌}
 use lib.Seq.{drop-length}
-use borrow.Author.Rules.{rules}
 use Rattle.numeral.proofs.Numbers.{starts_some}
 use Rattle.text.specs.Sheet.{named}
 use Rattle.text.proofs.named.Goals as goal

@@ -1,6 +1,5 @@
 -- `text::named_word` meets its contract: the second word's. Assumes nothing.
 use mathlib.Core.Path.{ap, ◌∙◌}
-use borrow.Author.Rules.{rules}
 use Rattle.split.specs.Parts.{until, past}
 use Rattle.split.specs.declared.Mark.TheVariants.{Blank, Word}
 use Rattle.text.specs.Sheet.{named}

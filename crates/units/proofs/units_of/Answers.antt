@@ -6,7 +6,6 @@ use lib.Ieee.{binary64, fits}
 use mir.Syntax.{w32}
 use mir.Val.{to_z, of_z}
 use borrow.Author.Rules.{rules}
-use Rattle.units.specs.Units.{signed}
 use Rattle.units.specs.Bits.{size_of}
 use Rattle.units.proofs.Fields.{no_nan, held_by_bits}
 use Rattle.units.proofs.units_of.Goals as goal
@@ -18,9 +17,6 @@ fits_format c = subst T (sym c.well_formed.0.1) tt
 
 pub float_to_bits-bits : goal.float_to_bits-bits
 float_to_bits-bits c = no_nan c.args.u c.requires
-
-pub size-requires : goal.size-requires
-size-requires c = search rules
 
 pub signed-requires : goal.signed-requires
 unfolding size_of

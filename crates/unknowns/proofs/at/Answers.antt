@@ -2,12 +2,11 @@
 -- Assumes nothing.
 use mathlib.Core.Path.{◌≡◌, refl, ◌∙◌, ap}
 use mathlib.Core.List.{List, [], ◌∷◌}
-use Prim.Native.Nat.{ℕ, suc, ◌+◌, ◌-◌, ◌*◌, ◌<◌, ◌≤◌}
+use Prim.Native.Nat.{ℕ, suc, ◌+◌, ◌-◌, ◌*◌, ◌<◌}
 use native.Mathlib.Omega.{arith}
 use lib.IntN.{ℤ, pos, ◌-ℤ◌}
 use lib.ListN.{length}
 use mir.Syntax.{w64}
-use mir.Val.{to_z}
 use mir.Facts.{to_z-of_z}
 use Rattle.whole.specs.Whole.{◌·◌}
 use Rattle.whole.proofs.Solve.{◌:-◌, ◌:*◌, #, v0, v1, v2, v3}
@@ -19,22 +18,9 @@ use Rattle.unknowns.proofs.Ranges.{most_unknown, entered, entry_in, difference_i
 use Rattle.unknowns.proofs.at.Goals as goal
 use Rattle.unknowns.proofs.at.Goals.{After-second_difference, Start}
 
-pub overflow_sub-ys : goal.overflow_sub-ys
-overflow_sub-ys c = omega (arith, c.requires.place_in_bounds)
-
-pub entry-scale-requires : goal.entry-scale-requires
-entry-scale-requires c = entered c.requires.sound
-
-pub first-next-requires : goal.first-next-requires
-first-next-requires c = c.requires.sound
-
 pub loop-i-init : goal.loop-i-init
 unfolding unknown
-loop-i-init c = (omega arith, refl, to_z-of_z {w = w64} (record { sfits = c.first-next.type_inv }) ∙ c.first-next.ensures)
-
-pub second_difference-requires : goal.second_difference-requires
-second_difference-requires c =
-    record { sound = c.requires.sound; i_in_bounds = omega (arith, c.requires.place_in_bounds, c.loop-i-test.true) }
+loop-i-init c = (refl, to_z-of_z {w = w64} (record { sfits = c.first-next.type_inv }) ∙ c.first-next.ensures)
 
 terms : (c : After-second_difference) →
     In w64 (held c.entry-scale.result ∷ held c.second_difference.result ∷ bits c.loop-i.next-bits ∷ bits c.loop-i.here-bits ∷ [])
@@ -48,7 +34,7 @@ terms c =
         rw c.entry-scale.ensures (entry_in (length s.args.ys.now - 2) (entered s.requires.sound)),
         (
           rw c.second_difference.ensures (difference_in s.requires.sound l.i i),
-          (rw l.invariant.2 (unknown_in s.requires.sound (suc l.i) (omega (arith, i))), (rw l.invariant.1 (unknown_in s.requires.sound l.i (omega (arith, i))), tt)),
+          (rw l.invariant.1 (unknown_in s.requires.sound (suc l.i) (omega (arith, i))), (rw l.invariant.0 (unknown_in s.requires.sound l.i (omega (arith, i))), tt)),
         ),
       );
     }
@@ -69,12 +55,6 @@ pub overflow_sub-after-in-loop-i : goal.overflow_sub-after-in-loop-i
 unfolding quintic
 overflow_sub-after-in-loop-i c = step (terms c) (v0 :* v1 :- # 4 :* v2 :- v3) tt
 
-pub overflow_add-i : goal.overflow_add-i
-overflow_add-i c = omega (arith, c.loop-i-test.true)
-
-pub loop-i-smaller : goal.loop-i-smaller
-loop-i-smaller c = omega (arith, c.loop-i-test.true)
-
 -- the next unknown
 onward : (ys : List ℤ) (i m : ℕ) → m ≡ suc i → a (length ys - 2) · δ² ys i -ℤ 4 · unknown ys (suc i) -ℤ unknown ys i ≡ unknown ys (suc m)
 unfolding unknown scale
@@ -86,18 +66,7 @@ loop-i-preserved c =
     let ys = c.args.ys.now in
     let l = c.loop-i in
     let one_more : suc l.i ≡ l.i + 1 = omega arith in (
-      omega (arith, c.loop-i-test.true),
-      l.invariant.2 ∙ ap (λ k. unknown ys k) one_more,
+      l.invariant.1 ∙ ap (λ k. unknown ys k) one_more,
       back (terms c) (v0 :* v1 :- # 4 :* v2 :- v3) tt
-          ∙ rw (c.entry-scale.ensures, c.second_difference.ensures, l.invariant.2, l.invariant.1) (onward ys l.i (l.i + 1) (omega arith)),
+          ∙ rw (c.entry-scale.ensures, c.second_difference.ensures, l.invariant.1, l.invariant.0) (onward ys l.i (l.i + 1) (omega arith)),
     )
-
-pub returns : goal.returns
-returns c =
-    let s = (goal.at.returns c).Start in
-    let l = c.loop-i in
-    let done : l.i ≡ s.args.place = omega (arith, c.loop-i-test.false, l.invariant.0) in
-    λ i. record {
-      here = (l.invariant.1 ∙ ap (λ k. unknown s.args.ys.now k) done) i;
-      next = (l.invariant.2 ∙ ap (λ k. unknown s.args.ys.now (suc k)) done) i;
-    }

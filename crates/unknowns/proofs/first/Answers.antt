@@ -1,14 +1,12 @@
 -- `unknowns::first` meets its contract: (3.13) from its last term to the first.
 -- Assumes nothing.
-use mathlib.Core.Path.{◌≡◌, refl, ◌∙◌, ap₂}
+use mathlib.Core.Path.{◌≡◌, refl, ◌∙◌}
 use mathlib.Core.List.{List, [], ◌∷◌}
-use Prim.Native.Nat.{ℕ, suc, ◌+◌, ◌-◌, ◌*◌, ◌<◌, ◌≤◌}
+use Prim.Native.Nat.{ℕ, suc, ◌+◌, ◌-◌, ◌*◌, ◌<◌}
 use native.Mathlib.Omega.{arith}
-use borrow.Author.Rules.{rules}
 use lib.IntN.{ℤ, pos, ◌-ℤ◌}
 use lib.ListN.{length}
 use mir.Syntax.{w64}
-use mir.Val.{to_z}
 use Rattle.whole.specs.Whole.{◌·◌}
 use Rattle.whole.proofs.Solve.{◌:-◌, ◌:*◌, v0, v1, v2}
 use Rattle.whole.proofs.Interval.{◌to◌, ±}
@@ -25,21 +23,7 @@ overflow_sub-inner c = omega (arith, c.requires.least)
 
 pub loop-k-init : goal.loop-k-init
 unfolding sum
-loop-k-init c = (omega arith, refl)
-
-pub entry-requires : goal.entry-requires
-entry-requires c = omega (arith, c.requires.most, c.loop-k-test.true)
-
-pub overflow_sub-inner-in-loop-k : goal.overflow_sub-inner-in-loop-k
-overflow_sub-inner-in-loop-k c = omega (arith, c.loop-k-test.true)
-
-pub overflow_sub-inner-in-loop-k-2 : goal.overflow_sub-inner-in-loop-k-2
-overflow_sub-inner-in-loop-k-2 c = omega (arith, c.loop-k-test.true)
-
-pub second_difference-requires : goal.second_difference-requires
-unfolding quintic
-second_difference-requires c =
-    record { sound = c.requires; i_in_bounds = omega (arith, c.requires.least, c.loop-k-test.true) }
+loop-k-init c = refl
 
 terms : (c : After-second_difference) →
     In w64 (held c.entry.result ∷ held c.second_difference.result ∷ bits c.loop-k.total-bits ∷ [])
@@ -53,7 +37,7 @@ terms c =
         rw c.entry.ensures (entry_in l.k (omega (arith, s.requires.most, k))),
         (
           rw c.second_difference.ensures (difference_in s.requires (length s.args.ys.now - 2 - 1 - l.k) (omega (arith, k))),
-          (rw l.invariant.1 (sum_in s.requires (length s.args.ys.now - 2 - l.k) l.k (omega (arith, k))), tt),
+          (rw l.invariant (sum_in s.requires (length s.args.ys.now - 2 - l.k) l.k (omega (arith, k))), tt),
         ),
       );
     }
@@ -66,9 +50,6 @@ pub overflow_sub-total : goal.overflow_sub-total
 unfolding quintic
 overflow_sub-total c = step (terms c) (v0 :* v1 :- v2) tt
 
-pub loop-k-smaller : goal.loop-k-smaller
-loop-k-smaller c = omega (arith, c.loop-k-test.true)
-
 -- one more term
 longer : (ys : List ℤ) (m k i j : ℕ) → m ≡ suc k → j ≡ suc i → a k · δ² ys i -ℤ sum ys j k ≡ sum ys i m
 unfolding sum
@@ -80,17 +61,7 @@ loop-k-preserved c =
     let ys = c.args.ys.now in
     let l = c.loop-k in
     let k : l.k < length ys - 2 = c.loop-k-test.true in
-    let same : length ys - 2 - 1 - l.k ≡ length ys - 2 - (l.k + 1) = omega arith in (
-      omega (arith, k),
-      back (terms c) (v0 :* v1 :- v2) tt
-          ∙ rw (c.entry.ensures, c.second_difference.ensures, l.invariant.1, same)
-          (longer ys (l.k + 1) l.k (length ys - 2 - (l.k + 1)) (length ys - 2 - l.k) (omega arith) (omega (arith, k))),
-    )
-
-pub returns : goal.returns
-returns c =
-    let ys = c.args.ys.now in
-    let l = c.loop-k in
-    let none_left : length ys - 2 - l.k ≡ 0 = omega (arith, c.loop-k-test.false) in
-    let all : l.k ≡ length ys - 2 = omega (arith, c.loop-k-test.false, l.invariant.0) in
-    l.invariant.1 ∙ ap₂ (λ i k. sum ys i k) none_left all
+    let same : length ys - 2 - 1 - l.k ≡ length ys - 2 - (l.k + 1) = omega arith in
+    back (terms c) (v0 :* v1 :- v2) tt
+    ∙ rw (c.entry.ensures, c.second_difference.ensures, l.invariant, same)
+    (longer ys (l.k + 1) l.k (length ys - 2 - (l.k + 1)) (length ys - 2 - l.k) (omega arith) (omega (arith, k)))

@@ -1,18 +1,15 @@
 -- `unknowns::second_difference` meets its contract.
 -- Assumes nothing.
 use mathlib.Core.Path.{◌≡◌, ◌∙◌}
-use mathlib.Core.List.{List, [], ◌∷◌}
-use Prim.Native.Nat.{ℕ, suc, ◌+◌}
-use native.Mathlib.Numerals.{add-one}
+use mathlib.Core.List.{[], ◌∷◌}
+use Prim.Native.Nat.{suc, ◌+◌}
 use native.Mathlib.Omega.{arith}
-use borrow.Author.Rules.{rules}
-use lib.IntN.{ℤ}
 use mir.Syntax.{w64}
 use Rattle.whole.proofs.Solve.{◌:+◌, ◌:-◌, ◌:*◌, #, v0, v1, v2}
 use Rattle.whole.proofs.Interval.{±, ∈_abs}
 use Rattle.whole.proofs.Machine.{held, In, step, back}
 use Rattle.curve.specs.Kind.{quintic}
-use Rattle.cubic.specs.Cubic.{y, δ²}
+use Rattle.cubic.specs.Cubic.{δ²}
 use Rattle.unknowns.proofs.second_difference.Goals as goal
 use Rattle.unknowns.proofs.second_difference.Goals.{After-value_at-2, After-value_at-3, Start}
 

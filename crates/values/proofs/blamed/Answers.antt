@@ -1,6 +1,5 @@
 -- `values::blamed` meets its contract. Assumes nothing.
 use mathlib.Core.Path.{ap, ◌∙◌}
-use borrow.Author.Rules.{rules}
 use Rattle.split.specs.Parts.{words}
 use Rattle.values.specs.Values.{first_wrong}
 use Rattle.values.proofs.blamed.Goals as goal

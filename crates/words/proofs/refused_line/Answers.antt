@@ -1,6 +1,5 @@
 -- `words::refused_line` meets its contract. Assumes nothing.
 use native.Mathlib.Omega.{arith}
-use borrow.Author.Rules.{rules}
 use Rattle.decimal.proofs.Puts.{put_then, same_room}
 use Rattle.words.specs.Said.{refused_line}
 use Rattle.words.proofs.Lengths.{length_at_line, length_at_place}

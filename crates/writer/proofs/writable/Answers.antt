@@ -1,34 +1,33 @@
 -- `writer::writable` meets its contract, by its two steps.
 -- Assumes nothing.
 use Prim.Native.Nat.{◌≤◌}
-use mathlib.Core.Path.{◌≡◌, sym, ap, ◌∙◌}
+use mathlib.Core.Path.{sym, ap, ◌∙◌}
 use native.Mathlib.Omega.{arith}
 use lib.ListN.{length}
 use Rattle.answer.specs.Judge.{verdict_of}
+use Rattle.answer.proofs.Orders.{exits}
 use Rattle.answer.proofs.Chain.{step_refuses, step_passes}
 use Rattle.curve.specs.Card.{knots}
-use Rattle.curve.specs.Orders.{verdict, write_order}
-use Rattle.knots.specs.Lent.{lent}
+use Rattle.curve.specs.Orders.{write_order}
 use Rattle.decode.specs.Decoded.{most}
 use Rattle.writer.proofs.Ready.{accepted_few}
-use borrow.Author.Rules.{rules}
 use Rattle.writer.proofs.writable.Goals as goal
-use Rattle.writer.proofs.writable.Goals.{In-Accepted}
+use Rattle.writer.proofs.writable.Goals.{In_ok-judged}
 
-few : (c : In-Accepted) → length c.args.minutes.now ≤ most
+few : (c : In_ok-judged) → length c.args.card.minutes.now ≤ most
 unfolding knots
-few c = accepted_few c.args.kind _ (sym c.judged.ensures ∙ ap verdict_of c.in-Accepted.is)
+few c = accepted_few c.args.kind _ (sym c.judged.ensures ∙ ap verdict_of c.in_ok-judged.was)
 
-pub overflow_mul-minutes : goal.overflow_mul-minutes
-overflow_mul-minutes c = omega (arith, few c)
+pub overflow_mul-card : goal.overflow_mul-card
+overflow_mul-card c = omega (arith, few c)
 
-pub overflow_add-minutes : goal.overflow_add-minutes
-overflow_add-minutes c = omega (arith, few c)
+pub overflow_add-card : goal.overflow_add-card
+overflow_add-card c = omega (arith, few c)
 
-pub returns-in-Refused : goal.returns-in-Refused
+pub returns-in_err-judged : goal.returns-in_err-judged
 unfolding write_order
-returns-in-Refused c = step_refuses _ c.judged.ensures c.in-Refused.is
+returns-in_err-judged c = exits _ _ c.from_residual.ensures.1 ∙ step_refuses _ c.judged.ensures c.in_err-judged.was
 
-pub returns-in-Accepted : goal.returns-in-Accepted
+pub returns : goal.returns
 unfolding write_order knots
-returns-in-Accepted c = step_passes _ c.judged.ensures c.in-Accepted.is c.room.ensures
+returns c = step_passes _ c.judged.ensures c.in_ok-judged.was c.room.ensures

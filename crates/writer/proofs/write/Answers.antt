@@ -3,7 +3,6 @@
 use mathlib.Core.Path.{ap, ◌∙◌}
 use Rattle.knots.specs.Kinds.{kind_of}
 use Rattle.knots.proofs.Carried.{quintic_is}
-use borrow.Author.Rules.{rules}
 use Rattle.writer.proofs.write.Goals as goal
 
 pub returns : goal.returns

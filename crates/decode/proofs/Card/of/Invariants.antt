@@ -13,6 +13,3 @@ use Rattle.decode.proofs.Card.of.Given as goal
 
 abbrev pub invariant-loop-i : goal.invariant-loop-i
 invariant-loop-i l = (l.i ≤ l.n) × Filled (minute_at l.list) l.i l.initial.minutes l.minutes × Filled (ordinate_at l.list) l.i l.initial.ordinates l.ordinates × Filled (slope_at l.list) l.i l.initial.slopes l.slopes × Filled (curvature_at l.list) l.i l.initial.curvatures l.curvatures
-
-abbrev pub decreases-loop-i : goal.decreases-loop-i
-decreases-loop-i l = l.n - l.i

@@ -3,7 +3,6 @@
 use mathlib.Core.Path.{◌≡◌, ◌∙◌, ap}
 use mathlib.Core.List.{[], ◌∷◌}
 use Prim.Native.Nat.{◌<◌, ◌^◌}
-use borrow.Author.Rules.{rules}
 use lib.IntN.{ℤ, nat_abs}
 use lib.Signed.{mag}
 use mir.Syntax.{w32, w64}

@@ -10,7 +10,7 @@ use mir.Facts.{to_z-of_z}
 use Rattle.whole.specs.Whole.{nearest}
 use Rattle.whole.proofs.Order.{abs_add}
 use Rattle.whole.proofs.Linear.{abs_fits}
-use Rattle.whole.proofs.Solve.{E, ◌:+◌, ◌:-◌, v0, v1}
+use Rattle.whole.proofs.Solve.{◌:+◌, ◌:-◌, v0, v1}
 use Rattle.whole.proofs.Machine.{Src, held, Ok, does, step, asks, gives, asked, told}
 use Rattle.gaps.proofs.Minutes.{minute_in}
 use Rattle.weights.specs.declared.Quantity.TheVariants.{Value}

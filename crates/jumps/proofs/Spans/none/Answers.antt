@@ -1,7 +1,6 @@
 -- `Spans::none` meets its contract.
 -- Assumes nothing.
 use mathlib.Core.Path.{ap}
-use borrow.Author.Rules.{rules}
 use Rattle.jumps.specs.declared.Span.{Span}
 use Rattle.jumps.specs.declared.Spans.{Spans}
 use Rattle.jumps.proofs.Spans.none.Goals as goal

@@ -4,7 +4,6 @@ use mathlib.Core.Path.{◌≡◌, refl, sym, ◌∙◌, ap}
 use mathlib.Core.Bool.{Bool, true, false, not, cond}
 use mathlib.Core.List.{List, [], ◌∷◌}
 use Prim.Native.Nat.{◌^◌}
-use borrow.Author.Rules.{rules}
 use lib.Dec.{T}
 use lib.IntN.{ℤ, pos}
 use mir.Syntax.{w64}
@@ -29,20 +28,27 @@ use Rattle.jumps.proofs.Spans.of.Goals.{After-cleared-cube, After-struct_told-6-
 abbrev start : After-struct_told-6-1 → Start
 start c = (goal.at.After-struct_told-6-1 c).Start
 
-abbrev args : After-struct_told-6-1 → List Src
-args c =
-    let a = (start c).args in
+abbrev numbers : Start → List Src
+numbers c =
+    let a = c.args in
     held a.h ∷ held a.a.ordinate ∷ held a.a.slope ∷ held a.a.curvature ∷ held a.b.ordinate ∷ held a.b.slope ∷ held a.b.curvature ∷ held a.square ∷ []
 
 abbrev tops : List Iv
 tops = pos 0 to pos widest ∷ ± (2 ^ 31) ∷ ± (2 ^ 31) ∷ ± (2 ^ 31) ∷ ± (2 ^ 31) ∷ ± (2 ^ 31) ∷ ± (2 ^ 31) ∷ ± (2 ^ 8) ∷ []
 
-within : (c : After-struct_told-6-1) → In w64 (args c) tops
-within c =
-    let p = (start c).requires.held in
+inside : (c : Start) → In w64 (numbers c) tops
+inside c =
+    let p = c.requires.held in
     let o = p.own in
     let n = p.other in
-    record { each = (gap_in p.gap, (∈_abs o.ordinate, (∈_abs o.slope, (∈_abs o.curvature, (∈_abs n.ordinate, (∈_abs n.slope, (∈_abs n.curvature, (∈_abs (start c).requires.square_bound, tt)))))))) }
+    record { each = (gap_in p.gap, (∈_abs o.ordinate, (∈_abs o.slope, (∈_abs o.curvature, (∈_abs n.ordinate, (∈_abs n.slope, (∈_abs n.curvature, (∈_abs c.requires.square_bound, tt)))))))) }
+
+-- where all of them are read
+abbrev args : After-struct_told-6-1 → List Src
+args c = numbers (start c)
+
+within : (c : After-struct_told-6-1) → In w64 (args c) tops
+within c = inside (start c)
 
 op : (e : E) → T (safe w64 tops e) → (c : After-struct_told-6-1) → SFits w64 (res w64 (args c) e)
 op e t c = step (within c) e t
@@ -127,29 +133,11 @@ told c e = ap (λ f. cond f no_span (sought c Fourth)) (sym e) ∙ turned (start
     turned true = refl
     turned false = refl
 
-pub overflow_sub-rise : goal.overflow_sub-rise
-overflow_sub-rise = op (y' :- y) tt
-
-pub overflow_mul-rise : goal.overflow_mul-rise
-overflow_mul-rise = op rise tt
-
-pub overflow_mul-s : goal.overflow_mul-s
-overflow_mul-s = op s tt
-
-pub overflow_mul-s1 : goal.overflow_mul-s1
-overflow_mul-s1 = op s1 tt
-
-pub overflow_mul-area : goal.overflow_mul-area
-overflow_mul-area = op (h :* h) tt
-
 pub overflow_mul-v : goal.overflow_mul-v
-overflow_mul-v = op v tt
+overflow_mul-v c = step (inside (goal.at.overflow_mul-v c).Start) v tt
 
 pub overflow_mul-v1 : goal.overflow_mul-v1
 overflow_mul-v1 = op v1 tt
-
-pub overflow_mul-ahead : goal.overflow_mul-ahead
-overflow_mul-ahead = op (# 20 :* rise) tt
 
 pub overflow_mul-ahead-2 : goal.overflow_mul-ahead-2
 overflow_mul-ahead-2 = op (# 12 :* s) tt
@@ -181,9 +169,6 @@ overflow_mul-behind-2 = op (# 8 :* s) tt
 pub overflow_add-behind : goal.overflow_add-behind
 overflow_add-behind = op (# 12 :* s1 :+ # 8 :* s) tt
 
-pub overflow_mul-behind-3 : goal.overflow_mul-behind-3
-overflow_mul-behind-3 = op (# 20 :* rise) tt
-
 pub overflow_sub-behind : goal.overflow_sub-behind
 overflow_sub-behind = op (# 12 :* s1 :+ # 8 :* s :- # 20 :* rise) tt
 
@@ -195,12 +180,6 @@ overflow_sub-behind-2 = op (# 3 :* v1 :- v) tt
 
 pub overflow_sub-behind-3 : goal.overflow_sub-behind-3
 overflow_sub-behind-3 = op (behind_e Third h y m k y' m' k') tt
-
-pub overflow_mul-leeway : goal.overflow_mul-leeway
-overflow_mul-leeway = op (# 4 :* h) tt
-
-pub overflow_add-leeway : goal.overflow_add-leeway
-overflow_add-leeway = op (first Third :+ # 4 :* h) tt
 
 pub overflow_mul-leeway-2 : goal.overflow_mul-leeway-2
 overflow_mul-leeway-2 = op (leewayE Third) tt
@@ -229,9 +208,6 @@ overflow_sub-ahead4 = fourth (# 3 :* v :- # 2 :* v1) tt
 pub overflow_add-ahead4-2 : goal.overflow_add-ahead4-2
 overflow_add-ahead4-2 = fourth (# 16 :* s :+ # 14 :* s1 :+ (# 3 :* v :- # 2 :* v1)) tt
 
-pub overflow_mul-ahead4-5 : goal.overflow_mul-ahead4-5
-overflow_mul-ahead4-5 = fourth (# 30 :* rise) tt
-
 pub overflow_sub-ahead4-2 : goal.overflow_sub-ahead4-2
 overflow_sub-ahead4-2 = fourth (ahead_e Fourth h y m k y' m' k') tt
 
@@ -256,17 +232,8 @@ overflow_sub-behind4 = fourth (# 3 :* v1 :- # 2 :* v) tt
 pub overflow_sub-behind4-2 : goal.overflow_sub-behind4-2
 overflow_sub-behind4-2 = fourth (# 16 :* s1 :+ # 14 :* s :- (# 3 :* v1 :- # 2 :* v)) tt
 
-pub overflow_mul-behind4-5 : goal.overflow_mul-behind4-5
-overflow_mul-behind4-5 = fourth (# 30 :* rise) tt
-
 pub overflow_sub-behind4-3 : goal.overflow_sub-behind4-3
 overflow_sub-behind4-3 = fourth (behind_e Fourth h y m k y' m' k') tt
-
-pub overflow_mul-leeway4 : goal.overflow_mul-leeway4
-overflow_mul-leeway4 = fourth (# 4 :* h) tt
-
-pub overflow_add-leeway4 : goal.overflow_add-leeway4
-overflow_add-leeway4 = fourth (first Fourth :+ # 4 :* h) tt
 
 pub overflow_mul-leeway4-2 : goal.overflow_mul-leeway4-2
 overflow_mul-leeway4-2 = fourth (leewayE Fourth) tt

@@ -2,7 +2,6 @@
 -- Assumes nothing.
 use mathlib.Core.Path.{◌≡◌, sym, ◌∙◌, ap, ap₂}
 use mathlib.Core.List.{[], ◌∷◌}
-use borrow.Author.Rules.{rules}
 use lib.IntN.{◌-ℤ◌}
 use mir.Syntax.{w64}
 use Rattle.whole.proofs.Solve.{◌:-◌, v0, v1}

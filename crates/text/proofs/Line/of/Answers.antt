@@ -1,6 +1,5 @@
 -- `text::Line::of` meets its contract. Assumes nothing.
 use mathlib.Core.Path.{ap, ◌∙◌}
-use borrow.Author.Rules.{rules}
 use Rattle.split.specs.Parts.{words}
 use Rattle.text.specs.Sheet.{line_by, line}
 use Rattle.text.proofs.Line.of.Goals as goal

@@ -1,9 +1,9 @@
 -- `text::Line::of_words` meets its contract, word by word. Assumes nothing.
 use mathlib.Core.Path.{◌≡◌, ap, ◌∙◌}
-use borrow.Author.Rules.{rules}
-use Rattle.split.specs.Parts.{past, until}
+use Rattle.split.specs.Parts.{words, past, until}
 use Rattle.numeral.specs.Number.{signed_number}
-use Rattle.text.specs.Sheet.{knot, with_slope}
+use Rattle.std.proofs.lemmas.Result.{err_from_is_err_and}
+use Rattle.text.specs.Sheet.{knot, with_slope, line_by}
 use Rattle.split.specs.declared.Mark.TheVariants.{Blank, Word}
 use Rattle.text.proofs.Lines.{no_words, one_word, two_words, three_words, four_words}
 use Rattle.text.proofs.Line.of_words.Goals as goal
@@ -45,13 +45,22 @@ returns-then-fourth-gt0 c =
     let q = (goal.at.Else-second-eq0 r).Else-first-eq0 in
     four_words _ q.past-first.ensures q.if-first-eq0.false (second (goal.at.Else-second-eq0 r).After-past-second) r.if-second-eq0.false (third (goal.at.Else-third-eq0 e).After-past-third) e.if-third-eq0.false (fourth (goal.at.returns-then-fourth-gt0 c).After-past-fourth) c.if-fourth-gt0.true
 
-pub returns : goal.returns
-returns c =
-    let d = (goal.at.returns c).Else-fourth-gt0 in
+-- three words, where there is no fourth
+all : (c : Else-fourth-gt0)
+    → with_slope c.knot-two.result (signed_number (until Blank c.past-third.result.now)) ≡ line_by (words c.args.text.now)
+all d =
     let e = (goal.at.Else-fourth-gt0 d).Else-third-eq0 in
     let k = (goal.at.Else-third-eq0 e).After-knot-two in
     let r = (goal.at.After-knot-two k).Else-second-eq0 in
     let q = (goal.at.Else-second-eq0 r).Else-first-eq0 in
-    c.with_slope.ensures
-    ∙ rw (pair k, c.of.ensures, c.until-3.ensures)
+    rw (pair k)
     (three_words _ q.past-first.ensures q.if-first-eq0.false (second (goal.at.Else-second-eq0 r).After-past-second) r.if-second-eq0.false (third (goal.at.Else-third-eq0 e).After-past-third) e.if-third-eq0.false (fourth (goal.at.Else-fourth-gt0 d).After-past-fourth) d.if-fourth-gt0.false)
+
+pub returns-in_err-two : goal.returns-in_err-two
+unfolding with_slope
+returns-in_err-two c =
+    let p = err_from_is_err_and c.from_residual.result c.from_residual.ensures.1 in
+    rw (p.1, p.2) (rw c.in_err-two.was at (all (goal.at.returns-in_err-two c).Else-fourth-gt0))
+
+pub returns : goal.returns
+returns c = c.with_slope.ensures ∙ rw (← c.in_ok-two.was, c.signed.ensures, c.until-3.ensures) (all (goal.at.returns c).Else-fourth-gt0)

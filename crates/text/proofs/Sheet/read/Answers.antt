@@ -1,65 +1,43 @@
 -- `text::Sheet::read` meets its contract: a loop over the lines. Assumes nothing.
-use Prim.Native.Nat.{◌+◌, ◌-◌}
-use mathlib.Core.Path.{ap, ◌∙◌}
+use mathlib.Core.Path.{◌≡◌, sym, ◌∙◌}
 use native.Mathlib.Omega.{arith}
-use lib.ListN.{length}
-use borrow.Author.Rules.{rules}
+use lib.ListN.{drop}
+use native.Mathlib.Nat.{add_assoc}
+use Rattle.std.proofs.lemmas.Result.{err_from_is_err_and}
 use borrow.Author.Tests.{lt-ltb}
 use Rattle.split.specs.Parts.{until}
-use Rattle.text.specs.Sheet.{sheet}
 use Rattle.split.specs.declared.Mark.TheVariants.{LineEnd}
-use Rattle.text.proofs.Readings.{going, wrong, full, Reading, reading_starts, reading_stops, reading_ends, reading_goes_on}
+use Rattle.text.specs.Sheet.{with_line, sheet}
+use Rattle.text.proofs.Readings.{reading_starts, reading_stops, reading_ends, reading_goes_on, reading_breaks}
 use Rattle.text.proofs.Sheet.read.Goals as goal
-use Rattle.text.proofs.Sheet.read.Goals.{After-taken-sheet, Then-at-text}
+use Rattle.text.proofs.Sheet.read.Goals.{After-with_line}
 
 pub returns-then-text-gt-LONGEST : goal.returns-then-text-gt-LONGEST
 unfolding sheet
-returns-then-text-gt-LONGEST c = rw (lt-ltb _ _ c.if-text-gt-LONGEST.true) c.refused.ensures
+returns-then-text-gt-LONGEST c = rw (lt-ltb _ _ c.if-text-gt-LONGEST.true)
 
 pub loop-sheet-init : goal.loop-sheet-init
-loop-sheet-init c = rw c.refused-sheet.ensures (reading_starts _ _)
+loop-sheet-init c = rw c.new-sheet.ensures (reading_starts _ _)
 
-pub from-requires : goal.from-requires
-from-requires c = c.if-at-text.true
+-- the line that was found
+took : (c : After-with_line)
+    → c.with_line.result ≡ with_line c.args.mends c.loop-sheet.sheet c.loop-sheet.line (until LineEnd (drop c.loop-sheet.at c.args.text.now))
+took c = rw (c.until-found.ensures, c.from.ensures) at c.with_line.ensures
 
-pub taken-sheet-requires : goal.taken-sheet-requires
-taken-sheet-requires c = c.if-sheet-lt-MOST.true
-
-next : (c : After-taken-sheet)
-    → Reading c.args.mends c.args.text.now c.taken-sheet.result
-    (c.loop-sheet.line + 1)
-    (c.loop-sheet.at + length c.until-found.result.now + 1)
-next c =
-    let q = (goal.at.After-taken-sheet c).Then-at-text in
-    let l = q.loop-sheet in
-    let f = c.until-found.ensures ∙ ap (until LineEnd) c.from.ensures in
-    rw (c.taken-sheet.ensures, c.of.ensures, f)
-    (reading_goes_on l.invariant (going _ q.loop-sheet-test.true q.if-sheet-lt-MOST.true) q.if-at-text.true)
-
-pub overflow_add-line : goal.overflow_add-line
-overflow_add-line c = omega (arith, (next c).few, (next c).within)
-
-pub overflow_add-at : goal.overflow_add-at
-overflow_add-at c = omega (arith, (next c).within)
-
-pub overflow_add-at-in-loop-sheet : goal.overflow_add-at-in-loop-sheet
-overflow_add-at-in-loop-sheet c = omega (arith, (next c).within)
-
-pub loop-sheet-smaller : goal.loop-sheet-smaller
-loop-sheet-smaller c = omega (arith, (next c).within)
+pub returns-in_err-sheet : goal.returns-in_err-sheet
+returns-in_err-sheet c =
+    let p = err_from_is_err_and c.from_residual.result c.from_residual.ensures.1 in
+    let q = (goal.at.returns-in_err-sheet c).After-with_line in
+    rw (p.1, p.2) (reading_breaks c.loop-sheet.invariant c.loop-sheet-test.true c.if-at-text.true (omega arith) (sym (took q) ∙ c.in_err-sheet.was))
 
 pub loop-sheet-preserved : goal.loop-sheet-preserved
-loop-sheet-preserved c = next c
+loop-sheet-preserved c =
+    let q = (goal.at.loop-sheet-preserved c).After-with_line in
+    rw (c.until-found.ensures, c.from.ensures, ← add_assoc)
+    (reading_goes_on c.loop-sheet.invariant c.loop-sheet-test.true c.if-at-text.true (sym (took q) ∙ c.in_ok-sheet.was))
 
 pub returns-else-at-text : goal.returns-else-at-text
 returns-else-at-text c = reading_ends c.loop-sheet.invariant (omega arith) c.if-at-text.false
 
-pub returns-else-sheet-lt-MOST : goal.returns-else-sheet-lt-MOST
-returns-else-sheet-lt-MOST c =
-    let l = c.loop-sheet in
-    reading_stops l.invariant (omega arith) (full _ c.if-sheet-lt-MOST.false)
-
 pub returns-after-loop-sheet : goal.returns-after-loop-sheet
-returns-after-loop-sheet c =
-    let l = c.loop-sheet in
-    reading_stops l.invariant (omega arith) (wrong _ c.loop-sheet-test.false)
+returns-after-loop-sheet c = reading_stops c.loop-sheet.invariant (omega arith) c.loop-sheet-test.false

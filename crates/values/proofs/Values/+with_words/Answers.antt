@@ -1,15 +1,19 @@
 -- `values::Values::with_words` meets its contract: a word, and those behind it. Assumes nothing.
-use mathlib.Core.Path.{ap, ◌∙◌}
+use Prim.Native.Nat.{ℕ}
+use mathlib.Core.Path.{◌≡◌, sym, ap, ◌∙◌}
 use native.Mathlib.Omega.{arith}
 use lib.ListN.{length}
-use Rattle.values.proofs.Reading.{no_more, stays_wrong, stays_full, next, shorter}
+use Rattle.std.proofs.lemmas.Result.{err_from_is_err_and}
+use Rattle.split.specs.Parts.{until}
+use Rattle.split.specs.declared.Mark.TheVariants.{Blank}
+use Rattle.numeral.specs.Number.{ordinate}
+use Rattle.values.specs.Values.{taken}
+use Rattle.values.proofs.Reading.{no_more, stays_full, next, breaks, shorter}
 use Rattle.values.proofs.Values.+with_words.Goals as goal
+use Rattle.values.proofs.Values.+with_words.Goals.{After-taken}
 
 pub returns-then-first-eq0 : goal.returns-then-first-eq0
 returns-then-first-eq0 t c = no_more _ c.past-first.ensures _ _ c.if-first-eq0.true
-
-pub returns-then-self-ne0 : goal.returns-then-self-ne0
-returns-then-self-ne0 t c = stays_wrong _ c.past-first.ensures c.if-first-eq0.false _ _ c.if-self-ne0.true
 
 pub returns-then-self-ge-MOST : goal.returns-then-self-ge-MOST
 returns-then-self-ge-MOST t c = stays_full _ c.past-first.ensures c.if-first-eq0.false _ _ c.if-self-ge-MOST.true
@@ -17,8 +21,18 @@ returns-then-self-ge-MOST t c = stays_full _ c.past-first.ensures c.if-first-eq0
 pub with_words-requires : goal.with_words-requires
 with_words-requires t c = (omega (arith, c.decreases, shorter _ c.past-first.ensures c.if-first-eq0.false, ap length c.past.ensures), tt)
 
+took : (t : ℕ) (c : After-taken t)
+    → c.taken.result ≡ taken c.args.self c.args.line (ordinate (until Blank c.past-first.result.now))
+took t c = rw (c.ordinate.ensures, c.until-word.ensures) at c.taken.ensures
+
+pub returns-in_err-next : goal.returns-in_err-next
+returns-in_err-next t c =
+    let p = err_from_is_err_and c.from_residual.result c.from_residual.ensures.1 in
+    let q = (goal.at.returns-in_err-next t c).After-taken in
+    rw (p.1, p.2) (breaks _ c.past-first.ensures c.if-first-eq0.false _ _ (omega (arith, c.if-self-ge-MOST.false)) (sym (took t q) ∙ c.in_err-next.was))
+
 pub returns : goal.returns
 returns t c =
+    let q = (goal.at.returns t c).After-taken in
     c.with_words.ensures
-    ∙ rw (c.past.ensures, c.taken-next.ensures, c.of.ensures, c.until-word.ensures)
-    (next _ c.past-first.ensures c.if-first-eq0.false _ _ (omega (arith, c.if-self-ne0.false)) (omega (arith, c.if-self-ge-MOST.false)))
+    ∙ rw c.past.ensures (next _ c.past-first.ensures c.if-first-eq0.false _ _ (omega (arith, c.if-self-ge-MOST.false)) (sym (took t q) ∙ c.in_ok-next.was))

@@ -1,50 +1,40 @@
 -- `values::Values::read` meets its contract: a loop over the lines. Assumes nothing.
-use Prim.Native.Nat.{◌+◌, ◌-◌}
-use mathlib.Core.Path.{ap, ◌∙◌}
+use mathlib.Core.Path.{◌≡◌, sym, ◌∙◌}
+use native.Mathlib.Nat.{add_assoc}
 use native.Mathlib.Omega.{arith}
-use lib.ListN.{length}
-use borrow.Author.Rules.{rules}
+use lib.ListN.{drop}
 use borrow.Author.Tests.{lt-ltb}
-use Rattle.split.specs.Parts.{until}
+use Rattle.std.proofs.lemmas.Result.{err_from_is_err_and}
+use Rattle.split.specs.Parts.{until, words, bare}
 use Rattle.split.specs.declared.Mark.TheVariants.{LineEnd}
-use Rattle.values.specs.Values.{values}
-use Rattle.values.proofs.Reading.{Reading, reading_starts, reading_ends, reading_goes_on}
+use Rattle.values.specs.Values.{with_words, values}
+use Rattle.values.proofs.Reading.{reading_starts, reading_ends, reading_goes_on, reading_breaks}
 use Rattle.values.proofs.Values.read.Goals as goal
-use Rattle.values.proofs.Values.read.Goals.{After-until-found, After-with_words-values}
+use Rattle.values.proofs.Values.read.Goals.{After-with_words}
 
 pub returns-then-text-gt-LONGEST : goal.returns-then-text-gt-LONGEST
 unfolding values
-returns-then-text-gt-LONGEST c = rw (lt-ltb _ _ c.if-text-gt-LONGEST.true) c.refused.ensures
+returns-then-text-gt-LONGEST c = rw (lt-ltb _ _ c.if-text-gt-LONGEST.true)
 
 pub loop-at-init : goal.loop-at-init
-loop-at-init c = rw c.refused-values.ensures (reading_starts _)
+loop-at-init c = rw c.new-values.ensures (reading_starts _)
 
-pub from-requires : goal.from-requires
-from-requires c = omega arith
+-- the words of the line that was found
+took : (c : After-with_words)
+    → c.with_words.result ≡ with_words c.loop-at.values c.loop-at.line (words (bare (until LineEnd (drop c.loop-at.at c.args.text.now))))
+took c = rw (c.until.ensures, c.until-found.ensures, c.from.ensures) at c.with_words.ensures
 
-next : (c : After-with_words-values)
-    → Reading c.args.text.now c.with_words-values.result
-    (c.loop-at.line + 1)
-    (c.loop-at.at + length c.until-found.result.now + 1)
-next c =
-    let u = (goal.at.After-with_words-values c).After-until-found in
-    let f = u.until-found.ensures ∙ ap (until LineEnd) u.from.ensures in
-    rw (c.with_words-values.ensures, c.until.ensures, f) (reading_goes_on u.loop-at.invariant (omega arith))
-
-pub overflow_add-line : goal.overflow_add-line
-overflow_add-line c = omega (arith, (next c).few, (next c).within)
-
-pub overflow_add-at : goal.overflow_add-at
-overflow_add-at c = omega (arith, (next c).within)
-
-pub overflow_add-at-in-loop-at : goal.overflow_add-at-in-loop-at
-overflow_add-at-in-loop-at c = omega (arith, (next c).within)
-
-pub loop-at-smaller : goal.loop-at-smaller
-loop-at-smaller c = omega (arith, (next c).within)
+pub returns-in_err-values : goal.returns-in_err-values
+returns-in_err-values c =
+    let p = err_from_is_err_and c.from_residual.result c.from_residual.ensures.1 in
+    let q = (goal.at.returns-in_err-values c).After-with_words in
+    rw (p.1, p.2) (reading_breaks c.loop-at.invariant (omega arith) (omega arith) (sym (took q) ∙ c.in_err-values.was))
 
 pub loop-at-preserved : goal.loop-at-preserved
-loop-at-preserved c = next c
+loop-at-preserved c =
+    let q = (goal.at.loop-at-preserved c).After-with_words in
+    rw (c.until-found.ensures, c.from.ensures, ← add_assoc)
+    (reading_goes_on c.loop-at.invariant (omega arith) (sym (took q) ∙ c.in_ok-values.was))
 
 pub returns : goal.returns
 returns c = reading_ends c.loop-at.invariant (omega arith) (omega arith)
