@@ -1,6 +1,6 @@
 // The numbers among the program's arguments.
 use crate::tell::Undone;
-use numeral::Number;
+use numeral::Wrong;
 
 // No number among the arguments is larger.
 const MOST: u32 = 65535;
@@ -16,17 +16,15 @@ pub(crate) fn complain(rt: HostRuntime, word: &[u8]) {
 }
 
 pub(crate) fn whole(word: &[u8]) -> Option<u16> {
-    match Number::natural(word, MOST) {
-        Number::Whole(n) => u16::try_from(n).ok(),
-        Number::Bad(_) => None,
-    }
+    let number = numeral::natural(word, MOST).ok()?;
+    u16::try_from(number).ok()
 }
 
 // Whether a word that is no number is one in another spelling, or too large.
 pub(crate) fn nearly(word: &[u8]) -> bool {
-    match Number::natural(word, MOST) {
-        Number::Whole(_) => false,
-        Number::Bad(wrong) => wrong != Number::NOT_WHOLE,
+    match numeral::natural(word, MOST) {
+        Ok(_) => false,
+        Err(wrong) => wrong != Wrong::NotWhole,
     }
 }
 

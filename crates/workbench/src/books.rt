@@ -9,14 +9,11 @@ use crate::places::front;
 use crate::source::Source;
 use crate::swings::Care;
 use crate::tell::{Done, Undone};
-use answer::Judged;
-use book::{Step, Used, Walked};
+use answer::Reason;
+use book::{Step, Used};
 use opened::Opened;
 use std::fmt;
 use std::fmt::{Display, Formatter, Write};
-
-// The number with which a book says that it has no such room.
-const ABSENT: u32 = 20;
 
 // A closing record alone.
 fn new(rt: HostRuntime) -> Done {
@@ -30,9 +27,9 @@ fn new(rt: HostRuntime) -> Done {
 // `3 18 0 1020`: the room, its knots, its first and its last minute.
 fn list_card(rt: HostRuntime, file: &[u8], room: u16, card: &[u8]) -> Done {
     let opened = Opened::by_head(card);
-    if let Judged::Refused(number, place) = opened.verdict {
-        return Err(crate::tell::refused_in(rt, file, room, number, place));
-    }
+    opened.verdict.map_err(|refusal| {
+        crate::tell::refused_in(rt, file, room, refusal.number(), refusal.place)
+    })?;
     let card = opened.card;
     let first = crate::checks::first_minute(card);
     let last = crate::checks::last_minute(card);
@@ -120,19 +117,16 @@ pub(crate) fn look<'a>(rt: HostRuntime, book: Source<'a>, room: u16) -> Result<&
 
 // A card is explained whether it is accepted or not; the book's refusals and 20 are told as above.
 pub(crate) fn explain(rt: HostRuntime, name: &[u8], book: Source, room: u16, minute: u16) -> Done {
-    match book::walk(book.bytes, room) {
-        Walked::Refused(number, place) => {
-            Err(crate::tell::refused(rt, book.name, number, place))
-        }
-        Walked::Sound(slot) => {
-            if slot.size == 0 {
-                return Err(crate::tell::refused_in(rt, book.name, room, ABSENT, 0));
-            }
-            let behind = book.bytes.get(slot.at..).unwrap_or(&[]);
-            let bytes = card_in(front(behind, slot.size));
-            crate::explained::print(rt, Source { name, bytes }, minute)
-        }
+    let slot = book::walk(book.bytes, room).map_err(|refusal| {
+        crate::tell::refused(rt, book.name, refusal.number(), refusal.place)
+    })?;
+    if slot.size == 0 {
+        let absent = Reason::NoRoom.number();
+        return Err(crate::tell::refused_in(rt, book.name, room, absent, 0));
     }
+    let behind = book.bytes.get(slot.at..).unwrap_or(&[]);
+    let bytes = card_in(front(behind, slot.size));
+    crate::explained::print(rt, Source { name, bytes }, minute)
 }
 
 // A card that goes to standard output goes alone.
@@ -194,15 +188,15 @@ pub(crate) fn put(rt: HostRuntime, card: Source, room: u16, care: Care) -> Done 
     let bytes = crate::files::load(rt, file, &mut book)?;
     let used = book::check(bytes);
     crate::tell::accepted(rt, file, used.number, used.place)?;
-    let done = if book::find(bytes, room).number == ABSENT {
+    let done = if book::find(bytes, room).number == Reason::NoRoom.number() {
         "put in"
     } else {
         "replaced"
     };
     let opened = Opened::by_head(card.bytes);
-    if let Judged::Refused(number, place) = opened.verdict {
-        return Err(crate::tell::refused(rt, card.name, number, place));
-    }
+    opened.verdict.map_err(|refusal| {
+        crate::tell::refused(rt, card.name, refusal.number(), refusal.place)
+    })?;
     crate::swings::allow(rt, card, &[], care)?;
     let reach = Reach::of(opened.card);
     put_in(rt, file, &mut book, done, room, card.bytes, reach)

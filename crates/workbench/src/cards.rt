@@ -4,7 +4,6 @@ use crate::places::front;
 use crate::source::Source;
 use crate::swings::Care;
 use crate::tell::{Done, Undone};
-use answer::Judged;
 use decode::Card;
 use knots::Kind;
 use opened::Opened;
@@ -83,12 +82,10 @@ fn sound(rt: HostRuntime, source: Source, kind: Kind, card: Card, report: Report
 
 fn opened(rt: HostRuntime, source: Source, report: Report) -> Done {
     let opened = Opened::by_head(source.bytes);
-    match opened.verdict {
-        Judged::Refused(number, place) => {
-            Err(crate::tell::refused(rt, source.name, number, place))
-        }
-        Judged::Accepted => sound(rt, source, opened.kind, opened.card, report),
-    }
+    opened.verdict.map_err(|refusal| {
+        crate::tell::refused(rt, source.name, refusal.number(), refusal.place)
+    })?;
+    sound(rt, source, opened.kind, opened.card, report)
 }
 
 fn with(rt: HostRuntime, source: Source, job: Job) -> Done {

@@ -4,11 +4,12 @@ ghost use Rattle.std.specs.Prelude.{◌≤◌};
 
 use crate::places::at;
 use crate::source::Source;
-use crate::tell::{Done, Undone};
+use crate::tell::{Done, Text, Undone};
+use answer::Reason;
 use decode::Card;
 use explain::Explained;
 use opened::Opened;
-use std::fmt::{InlineText, Write};
+use std::fmt::Write;
 
 // ---- a reading
 
@@ -39,14 +40,14 @@ impl Cut {
 }
 
 // `-51.1838`. What is cut to nothing has no sign.
-fn hundredths(part: i64, over: u64) -> InlineText<32> {
+fn hundredths(part: i64, over: u64) -> Text {
     let cut = Cut::of(decimal::magnitude(part), over);
     let sign = if part < 0 && cut != Cut::NOTHING {
         "-"
     } else {
         ""
     };
-    let mut text = InlineText::new();
+    let mut text = Text::new();
     let _ = write!(text, "{sign}{}.{:04}", cut.whole, cut.rest);
     text
 }
@@ -127,8 +128,8 @@ fn gap_behind(card: Card, i: usize) -> u16
 }
 
 // `8^3 * 8^3`, of the gaps beside a knot; at an end there is one.
-fn powers(card: Card, knot: u32, order: u32) -> InlineText<64> {
-    let mut text = InlineText::new();
+fn powers(card: Card, knot: u32, order: u32) -> Text {
+    let mut text = Text::new();
     let i = knot as usize;
     if i == 0 {
         let behind = gap_behind(card, 0);
@@ -170,11 +171,13 @@ fn because(rt: HostRuntime, name: &[u8], told: Explained, card: Card) -> Undone 
 
 // As the readings at minutes tell it, but for 10.
 fn refused(rt: HostRuntime, name: &[u8], minute: u16, told: Explained, card: Card) -> Undone {
-    match told.number {
-        10 => because(rt, name, told, card),
-        11 => crate::tell::refused_at(rt, name, minute, told.number, told.place),
-        _ => crate::tell::refused(rt, name, told.number, told.place),
+    if told.number == Reason::Jump.number() {
+        return because(rt, name, told, card);
     }
+    if told.number == Reason::Outside.number() {
+        return crate::tell::refused_at(rt, name, minute, told.number, told.place);
+    }
+    crate::tell::refused(rt, name, told.number, told.place)
 }
 
 // ---- of a card's bytes

@@ -7,7 +7,8 @@ use crate::tell::{Done, Undone};
 use std::fs::File;
 use std::io::{Error, ErrorKind, Read, Write};
 
-// Reads until the buffer is full, the input ends or a read fails.
+// Reads until the buffer is full, the input ends or a read fails. Each read says how far the next one goes on: a
+// for would be no plainer.
 fn fill<R: Read>(from: &mut R, bytes: &mut [u8]) -> std::io::Result<usize>
     ensures { ReadsAtMost result bytes.new }
 {

@@ -1,7 +1,9 @@
 // The pre-heater's table: its values out of a file, and its cubic at every count of parts from the first value
 // to the last. The numbers are those of the crate `preheat`; here they are read, printed, or refused.
 use crate::tell::{Done, Undone};
+use answer::Reason;
 use preheat::Heated;
+use text::Blame;
 use values::Values;
 
 // No count is larger.
@@ -16,12 +18,20 @@ fn complain(rt: HostRuntime, file: &[u8], said: &[u8]) -> Undone {
 
 // Of a single value, 6, its line is told too.
 fn refused(rt: HostRuntime, file: &[u8], lines: &[u32], heated: Heated) -> Undone {
-    if heated.number != 6 {
+    if heated.number != Reason::FarOrdinate.number() {
         return crate::tell::refused(rt, file, heated.number, heated.place);
     }
     let line = crate::places::at(lines, heated.place as usize);
     let mut said = io::buffer();
     let n = words::value_line(&mut said, heated.number, heated.place, line);
+    complain(rt, file, crate::places::front(&said, n))
+}
+
+// What is wrong in the text.
+fn wrong(rt: HostRuntime, file: &[u8], text: &[u8], blame: Blame) -> Undone {
+    let mut said = io::buffer();
+    let word = values::blamed(text, blame.line);
+    let n = words::wrong_line(&mut said, blame.wrong, blame.line, word);
     complain(rt, file, crate::places::front(&said, n))
 }
 
@@ -44,13 +54,7 @@ fn print_all(rt: HostRuntime, values: &[i16], parts: u16) -> Done {
 
 // What is refused is so at every count, and told before anything is printed.
 fn with_text(rt: HostRuntime, file: &[u8], text: &[u8], parts: u16) -> Done {
-    let read = Values::read(text);
-    if read.wrong != 0 {
-        let mut said = io::buffer();
-        let blamed = values::blamed(text, read.line);
-        let n = words::wrong_line(&mut said, read.wrong, read.line, blamed);
-        return Err(complain(rt, file, crate::places::front(&said, n)));
-    }
+    let read = Values::read(text).map_err(|blame| wrong(rt, file, text, blame))?;
     let values = crate::places::front(&read.values, read.count);
     let first = preheat::value(values, parts, 0);
     if first.number != 0 {

@@ -1,8 +1,9 @@
 // What the program asks of the system, over `std`: its arguments, files by their names, its process's number,
 // and what an error says. A name is bytes, and `std` takes text: a name that is no text is told as the system
 // tells it.
+use crate::tell::Text;
 use std::env::{Env, FillError};
-use std::fmt::{InlineText, Write};
+use std::fmt::Write;
 use std::fs::{File, OpenOptions};
 use std::io::{Error, ErrorKind};
 
@@ -80,7 +81,7 @@ fn before_bracket(text: &str) -> &str {
 // A line to standard error: what failed, as the caller names it, a colon and the system's text of the error,
 // without its number in brackets, which `std` adds.
 pub(crate) fn complain(rt: HostRuntime, what: &[u8], error: Error) {
-    let mut text = InlineText::<256>::new();
+    let mut text = Text::new();
     let _ = write!(text, "{error}");
     let said = if error.raw_os_error().is_none() {
         text.as_str()

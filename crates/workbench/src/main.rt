@@ -4,8 +4,8 @@
 // book new BOOK, book list BOOK, book find BOOK ROOM [CARD], book put BOOK ROOM CARD CARE, book remove BOOK
 // ROOM, save FILE. CARE is two words: the hundredths beyond its knots beyond which a curve is warned of, and
 // `strict` where such a curve is refused. A CARD that is read may be BOOK:ROOM. Results go to standard
-// output, complaints to standard error, and one byte to descriptor 3, since a program of Rattle has no exit
-// status (`tell`). What is proved of the lines is said in the crates that are called; here every function is
+// output, complaints to standard error, and one byte to descriptor 3: where none comes, the program was ended
+// before its time. What is proved of the lines is said in the crates that are called; here every function is
 // proved safe and ending.
 #![tactic(auto)]
 

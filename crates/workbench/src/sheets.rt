@@ -5,9 +5,9 @@ use crate::source::Source;
 use crate::swings::Care;
 use crate::tell::{Done, Undone};
 use mend::Plan;
-use reply::Answered;
+use reply::{Answered, Status};
 use rows::End;
-use text::Sheet;
+use text::{Blame, Sheet};
 
 // What is done with a sheet; `Fit` between which ends.
 #[derive(Clone, Copy)]
@@ -35,7 +35,7 @@ impl Wish<'_> {
         said: &[u8],
         made: &[u8],
     ) -> Done {
-        if answered.status != Answered::DONE {
+        if answered.status == Status::Refused {
             crate::tell::complain(rt, file);
             crate::tell::complain(rt, front(said, answered.length));
             return Err(Undone::Refused);
@@ -62,6 +62,14 @@ impl Wish<'_> {
     }
 }
 
+// The line of each knot, in a sheet with nothing wrong.
+fn lines(sheet: &Result<Sheet, Blame>) -> &[u32] {
+    match sheet {
+        Ok(sheet) => &sheet.lines,
+        Err(_) => &[],
+    }
+}
+
 fn fit_text(rt: HostRuntime, source: Source, wish: Wish, left: End, right: End) -> Done {
     let Source { name, bytes: text } = source;
     let sheet = Sheet::read(text, false);
@@ -71,7 +79,7 @@ fn fit_text(rt: HostRuntime, source: Source, wish: Wish, left: End, right: End) 
     let mut made = io::buffer();
     let answered = reply::answer(text, sheet, &logs, left, right, &mut said, &mut made);
     let length = answered.length;
-    wish.save(rt, name, &sheet.lines, answered, &said, &made)?;
+    wish.save(rt, name, lines(&sheet), answered, &said, &made)?;
     wish.list(rt, front(&said, length))
 }
 
@@ -96,8 +104,8 @@ fn mend_text(rt: HostRuntime, source: Source, wish: Wish) -> Done {
     let mut made = io::buffer();
     let mending = reply::mend(text, sheet, &logs, &mut said, &mut made);
     let length = mending.answered.length;
-    wish.save(rt, name, &sheet.lines, mending.answered, &said, &made)?;
-    tell_changes(rt, name, mending.plan, &sheet.lines);
+    wish.save(rt, name, lines(&sheet), mending.answered, &said, &made)?;
+    tell_changes(rt, name, mending.plan, lines(&sheet));
     wish.list(rt, front(&said, length))
 }
 

@@ -4,7 +4,7 @@ ghost use Rattle.std.specs.Prelude.{◌≡◌, length};
 
 use crate::tell::{Done, Undone};
 use reply::SLOT;
-use text::Sheet;
+use text::{Blame, Sheet};
 
 // The folder of a file, with the slash; nothing where its name has none.
 fn folder(file: &[u8]) -> &[u8] {
@@ -57,9 +57,18 @@ fn load_log(rt: HostRuntime, file: &[u8], line: u32, name: &[u8], slot: &mut [u8
 
 // All of them, in the order of the lines; the first that cannot be read is told. A sheet with anything wrong
 // has no log.
-pub(crate) fn load(rt: HostRuntime, file: &[u8], text: &[u8], sheet: Sheet, logs: &mut [u8]) -> Done
+pub(crate) fn load(
+    rt: HostRuntime,
+    file: &[u8],
+    text: &[u8],
+    sheet: Result<Sheet, Blame>,
+    logs: &mut [u8],
+) -> Done
     requires { length logs.old ≡ 4096 }
 {
+    let Ok(sheet) = sheet else {
+        return Ok(());
+    };
     for i in 0..Sheet::MOST {
         if sheet.logs[i] {
             let line = sheet.lines[i];

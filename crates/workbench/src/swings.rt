@@ -7,7 +7,6 @@ ghost use Rattle.opened.specs.Readable.{Readable};
 use crate::places::at;
 use crate::source::Source;
 use crate::tell::{Done, Stream, Undone};
-use answer::Judged;
 use decode::Card;
 use opened::Opened;
 use std::fmt;
@@ -172,8 +171,8 @@ impl Warner<'_> {
     fn card(self, rt: HostRuntime, bytes: &[u8]) -> Done {
         let opened = Opened::by_head(bytes);
         match opened.verdict {
-            Judged::Refused(_, _) => Ok(()),
-            Judged::Accepted => self.gaps(rt, opened.card),
+            Err(_) => Ok(()),
+            Ok(()) => self.gaps(rt, opened.card),
         }
     }
 }

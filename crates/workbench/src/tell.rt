@@ -1,5 +1,5 @@
 // What a command ends with, and what it says.
-use std::fmt::Display;
+use std::fmt::{Display, InlineText};
 use std::io::{Eprint, Error, ErrorKind, Print};
 use std::ops::Range;
 
@@ -30,6 +30,9 @@ pub(crate) fn each<F: Fn(usize) -> Done>(numbers: Range<usize>, thing: F) -> Don
     }
     done
 }
+
+// Text that is put together first; none comes near so many bytes.
+pub(crate) type Text = InlineText<256>;
 
 // ---- to standard output
 

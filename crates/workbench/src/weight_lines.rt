@@ -1,6 +1,6 @@
 // The fitters' weight sheet, printed from the table off which a value reading takes its weights.
 use crate::tell::Done;
-use weight_sheet::{Found, Row};
+use weight_sheet::Row;
 
 fn row_line(rt: HostRuntime, minute: usize, row: Row) -> Done {
     crate::tell::line(
@@ -18,7 +18,7 @@ fn print_gap(rt: HostRuntime, gap: usize) -> Done {
         format_args!("gap of {gap} minutes: minute ordinate slope curvature"),
     )?;
     for minute in 0..=gap {
-        if let Found::There(row) = Found::of(gap, minute) {
+        if let Some(row) = Row::at(gap, minute) {
             row_line(rt, minute, row)?;
         }
     }

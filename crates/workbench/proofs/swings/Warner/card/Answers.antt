@@ -8,5 +8,5 @@ use Rattle.workbench.proofs.swings.Warner.card.Goals as goal
 pub gaps-requires : goal.gaps-requires
 gaps-requires c =
     let o = c.by_head-opened.ensures in
-    let a = sym o.judged ∙ ap verdict_of c.in-Accepted.is in
+    let a = sym o.judged ∙ ap verdict_of c.in-Ok.is in
     accepted_readable o a
