@@ -1,32 +1,46 @@
 -- What a walk's answer says of a book, and what testing it and looking up a room answer then. Document 02, order 3.
 -- Assumes nothing.
-use Prim.Native.Nat.{ℕ, ◌+◌, ◌-◌, ◌≤◌}
+use Prim.Native.Nat.{ℕ, ◌+◌, ◌≤◌}
 use mathlib.Core.Path.{◌≡◌, refl, ap, sym, ◌∙◌, subst}
 use mathlib.Core.List.{List}
 use native.Mathlib.Omega.{arith}
 use lib.ListN.{length, take, drop}
-use Rattle.answer.specs.Answer.{Answer, refused, given, accepted, ◌then◌}
-use Rattle.answer.proofs.Steps.{not_both, given_same, first_accepts, next_accepts, both_accept}
+use Rattle.answer.specs.Answer.{Answer, refused, given, accepted, ◌then◌, refuse}
+use Rattle.answer.proofs.Steps.{not_both, given_same, first_accepts, next_accepts, both_accept, refuse_accepts}
 use Rattle.card.specs.Answers.{own}
 use Rattle.book.specs.Book.{Entry, size, most, ◌giving◌, book}
-use Rattle.book.specs.Lookup.{in_use, held, look_up, part, before, rooms, spot_at, spot}
+use Rattle.book.specs.Lookup.{in_use, held, look_up, part, before, rooms, spot_at, spot_of, spot}
 use Rattle.book.specs.Steps.{there, slot, walked_of, walked}
-use Rattle.book.specs.declared.Walked.{Walked}
-use Rattle.book.specs.declared.Walked.TheVariants.{Sound as Sound-walk, Refused}
+use lib.Dec.{eqb}
+use borrow.Author.Tests.{eq-eqb, eqb-true, eqb-false}
+use Rattle.std.specs.Prelude.{Result, Ok, Err, IsErrAnd}
+use Rattle.std.proofs.lemmas.Result.{err_from_is_err_and}
+use Rattle.answer.proofs.Never.{refuse_true}
+use Rattle.answer.specs.declared.Refusal.{Refusal}
+use Rattle.answer.proofs.Outcome.{one_judgement}
+use Rattle.answer.specs.Judge.{Judged, number_of}
 use Rattle.book.specs.declared.Slot.{Slot}
 use Rattle.book.specs.declared.Spot.{Spot}
 use Rattle.book.specs.declared.Used.{Used}
 use Rattle.book.proofs.Rooms.{nothing_there}
 use Rattle.book.proofs.Runs.{gives, Sound, sound, run_inside, Stands, stands_so, is_there}
 
+-- a refusal is one whatever it refuses
+pub same_refusal : {A B : Type 0} {n p m q : ℕ} → ◌≡◌ {A = Answer A} (refused n p) (refused m q) → ◌≡◌ {A = Answer B} (refused n p) (refused m q)
+same_refusal e = cc
+
 -- ---- the walk
 
 -- a slot, or a number and a place, belong to one answer only, so that a promise of them leaves one outcome
-pub one_walked : (a b : Walked) → walked_of a ≡ walked_of b → a ≡ b
-one_walked (Sound-walk m) (Sound-walk n) e = ap Sound-walk (given_same e)
-one_walked (Sound-walk m) (Refused n p) e = absurd (not_both (sym e))
-one_walked (Refused n p) (Sound-walk m) e = absurd (not_both e)
-one_walked (Refused n p) (Refused m q) e = cc
+pub one_walked : (a b : Result Slot Refusal) → walked_of a ≡ walked_of b → a ≡ b
+one_walked (Ok m) (Ok n) e = ap Ok (given_same e)
+one_walked (Ok m) (Err r) e = cc
+one_walked (Err r) (Ok m) e = cc
+one_walked (Err r) (Err q) e = ap slots (one_judgement {a = Err r} {b = Err q} (same_refusal e) refl)
+  where
+    slots : Judged → Result Slot Refusal
+    slots (Ok u) = Ok (record { bytes = 0; at = 0; size = 0 })
+    slots (Err e) = Err e
 
 -- it refuses where the book is refused
 pub walk_refused : (r : ℕ) (s : List ℕ) {n p : ℕ} → walked r s ≡ refused n p → book s ≡ refused n p
@@ -78,6 +92,10 @@ told_bytes w = ap (λ b. record { number = 0; place = 0; bytes = b }) w.bytes �
 
 -- ---- looking up
 
+-- what a `?` returns
+pub exits_found : (r : Result Spot Refusal) (e : Refusal) → IsErrAnd r (λ d. d ≡ e) → spot_of r ≡ spot_at 0 (refused (number_of e.reason) e.place)
+exits_found r e h = let p = err_from_is_err_and r h in rw (p.1, p.2)
+
 -- a refusal has no start
 pub spot_refused : (r : ℕ) (s : List ℕ) {n p : ℕ} → look_up r s ≡ refused n p → spot_at 0 (refused n p) ≡ spot r s
 unfolding spot_at spot
@@ -92,9 +110,11 @@ module _ {r : ℕ} {s : List ℕ} {m : Slot} (w : Walks r s m) where
   unfolding look_up ◌giving◌
   held_next e = rw (w.is, e)
 
-  pub room_absent : m.size ≡ 0 → look_up r s ≡ refused 20 0
-  unfolding ◌giving◌
-  room_absent h = held_next (nothing_there r w.sound.up (sym w.size ∙ h))
+  pub room_absent : {n p : ℕ} → refused n p ≡ refuse 20 0 (eqb m.size 0) → look_up r s ≡ refused n p
+  unfolding ◌giving◌ refuse
+  room_absent e =
+      let z : m.size ≡ 0 = eqb-true m.size 0 (refuse_true 20 0 _ (sym e)).0 in
+      held_next (nothing_there r w.sound.up (sym w.size ∙ z)) ∙ same_refusal (sym (rw (eq-eqb m.size 0 z) at e))
 
   -- the card that the slot holds
   pub record Found : Type 0 where
@@ -102,9 +122,10 @@ module _ {r : ℕ} {s : List ℕ} {m : Slot} (w : Walks r s m) where
     pub stands : Stands s m.at m.size card
     pub answer : look_up r s ≡ (own card then given card)
 
-  pub room_there : (m.size ≡ 0 → ⊥) → Found
+  pub room_there : accepted ≡ refuse 20 0 (eqb m.size 0) → Found
   unfolding ◌giving◌
-  room_there h =
+  room_there e =
+      let h = eqb-false m.size 0 (refuse_accepts 20 0 _ (sym e)) in
       let t = is_there r w.sound.run (λ z. h (w.size ∙ z)) in
       record { card = t.card; stands = stands_so (omega (arith, w.at)) w.size t.stands; answer = held_next t.is }
 

@@ -9,10 +9,14 @@ use native.Mathlib.Numerals.{add-one}
 use lib.ListN.{length}
 use lib.Dec.{ltb}
 use Rattle.answer.specs.Answer.{Answer, refused, given, Verdict, accepted, ◌then◌, refuse}
+use Rattle.std.specs.Prelude.{Result, IsErrAnd}
+use Rattle.std.proofs.lemmas.Result.{err_from_is_err_and}
+use Rattle.answer.specs.Judge.{number_of}
+use Rattle.answer.specs.declared.Refusal.{Refusal}
 use Rattle.answer.proofs.Steps.{then_assoc}
 use Rattle.book.specs.Book.{Entry, long, size, most, next, closes, holds, entry_at, ◌giving◌, scan, rising, book}
 use Rattle.book.specs.Lookup.{before}
-use Rattle.book.specs.Steps.{nothing_met, past, closed, there, slot, walked}
+use Rattle.book.specs.Steps.{nothing_met, past, closed, there, slot, walked_of, walked}
 use Rattle.book.specs.declared.Slot.{Slot}
 use Rattle.book.proofs.Standing.{closing, Holds, holding, long_entry, Told}
 use Rattle.book.proofs.Rooms.{Rises, nil, cons, rises, Tri, below, same, above, tri, is_below, is_same, is_above}
@@ -80,6 +84,10 @@ module _ (s : List ℕ) (at : ℕ) where
   scan_room k t f = rw (t, f)
 
 -- ---- the walk
+
+-- what a `?` returns where the rooms do not rise
+pub exits_walked : (r : Result Slot Refusal) (e : Refusal) → IsErrAnd r (λ d. d ≡ e) → walked_of r ≡ refused (number_of e.reason) e.place
+exits_walked r e h = let p = err_from_is_err_and r h in rw (p.1, p.2)
 
 -- what it answers, of what the scan finds from the slot's end on
 unfoldable pub resumed : ℕ → Verdict → ℕ → Slot → Answer (List Entry) → Answer Slot

@@ -1,7 +1,9 @@
 -- Document 02, order 3: what testing a book and looking up a room answer. "A refusal returns zeros beside number and place" (document 01).
 -- Assumes nothing.
-use Rattle.std.specs.Prelude.{ℕ, ◌+◌, List, [], ◌∷◌, cond, length, ltb, eqb}
+use Rattle.std.specs.Prelude.{ℕ, ◌+◌, List, [], ◌∷◌, cond, length, ltb, eqb, Result, Ok, Err}
 use Rattle.answer.specs.Answer.{Answer, refused, given, ◌then◌}
+use Rattle.answer.specs.Judge.{number_of}
+use Rattle.answer.specs.declared.Refusal.{Refusal}
 use Rattle.card.specs.Answers.{own}
 use Rattle.book.specs.Book.{Entry, long, size, ◌giving◌, book}
 use Rattle.book.specs.declared.Used.{Used}
@@ -11,6 +13,11 @@ use Rattle.book.specs.declared.Spot.{Spot}
 unfoldable pub in_use : Answer (List Entry) → Used
 in_use (refused n p) = record { number = n; place = p; bytes = 0 }
 in_use (given es) = record { number = 0; place = 0; bytes = size es }
+
+-- what the code answers of them, as C is told it
+abbrev pub used_of : Result Used Refusal → Used
+used_of (Ok u) = u
+used_of (Err e) = in_use (refused (number_of e.reason) e.place)
 
 -- the room's card; "20, room not present"
 unfoldable pub held : ℕ → List Entry → Answer (List ℕ)
@@ -43,3 +50,8 @@ spot_at start (given c) = record { number = 0; place = 0; start = start; length 
 
 unfoldable pub spot : ℕ → List ℕ → Spot
 spot r s = spot_at (before r (rooms (book s)) + 6) (look_up r s)
+
+-- what the code answers of it, as C is told it
+abbrev pub spot_of : Result Spot Refusal → Spot
+spot_of (Ok p) = p
+spot_of (Err e) = spot_at 0 (refused (number_of e.reason) e.place)

@@ -1,15 +1,15 @@
 -- What the steps inside the book's functions answer. Document 02, order 3.
 -- Assumes nothing.
-use Rattle.std.specs.Prelude.{ℕ, ◌+◌, ◌-◌, List, [], ◌∷◌, cond, ltb, eqb}
+use Rattle.std.specs.Prelude.{ℕ, ◌+◌, ◌-◌, List, [], ◌∷◌, cond, ltb, eqb, Result, Ok, Err}
 use Rattle.answer.specs.Answer.{Answer, refused, given}
+use Rattle.answer.specs.Judge.{number_of}
+use Rattle.answer.specs.declared.Refusal.{Refusal}
 use Rattle.little_endian.specs.Numbers.{num_at}
 use Rattle.book.specs.Book.{Entry, long, size, next, closes, holds, ◌giving◌, book}
 use Rattle.book.specs.Lookup.{before}
 use Rattle.book.specs.declared.Step.{Step}
 use Rattle.book.specs.declared.Step.TheVariants.{Room, Close, Wrong}
 use Rattle.book.specs.declared.Slot.{Slot}
-use Rattle.book.specs.declared.Walked.{Walked}
-use Rattle.book.specs.declared.Walked.TheVariants.{Sound, Refused}
 
 -- what may stand at an offset: a room's record, with its room and the offset behind it; or the closing record
 pub data Standing : Type 0 where
@@ -49,9 +49,9 @@ there r (e ∷ es) = cond (ltb e.room r) (there r es) (cond (eqb e.room r) (long
 abbrev pub slot : ℕ → List Entry → Slot
 slot r es = record { bytes = size es; at = before r es; size = there r es }
 
-abbrev pub walked_of : Walked → Answer Slot
-walked_of (Sound s) = given s
-walked_of (Refused n p) = refused n p
+abbrev pub walked_of : Result Slot Refusal → Answer Slot
+walked_of (Ok s) = given s
+walked_of (Err e) = refused (number_of e.reason) e.place
 
 -- "14 for the book's own records (..), then 22"
 unfoldable pub walked : ℕ → List ℕ → Answer Slot

@@ -3,34 +3,32 @@
 #![tactic(auto)]
 
 ghost use Rattle.std.specs.Prelude.{◌≡◌, ◌≤◌};
-ghost use Rattle.answer.specs.Answer.{refused, given, ◌then◌};
-ghost use Rattle.answer.specs.Judge.{verdict_of};
+ghost use Rattle.answer.specs.Answer.{refused};
+ghost use Rattle.answer.specs.Judge.{number_of, verdict_of};
 ghost use Rattle.card.specs.Answers.{own as card-own};
-ghost use Rattle.book.specs.Book.{most, closes, book as the_book};
-ghost use Rattle.book.specs.Lookup.{in_use, part, look_up, spot_at, spot};
-ghost use Rattle.book.specs.Steps.{step_of, step_at, nothing_met, past, closed, walked_of, walked};
+ghost use Rattle.book.specs.Book.{closes, book as the_book};
+ghost use Rattle.book.specs.Lookup.{in_use, part, look_up, spot_at, spot_of, spot};
+ghost use Rattle.book.specs.Steps.{step_of, step_at, past, walked_of, walked};
 
-use answer::Judged;
+use answer::{Judged, Reason, Refusal};
 use opened::Opened;
-use record::{Cursor, Found};
+use record::Cursor;
 
 // ---- a book's records
 
 // What stands at an offset of a book: a room's record, with the offset behind it; the closing record; or neither.
-#[derive(Drop)]
+#[derive(Clone, Copy)]
 pub enum Step {
     Room { room: u16, next: usize },
     Close,
     Wrong,
 }
 
+#[tactic(auto, using(record::proofs::Records::standing), unfolding(crate::specs::Book::closes))]
 fn closes(book: &[u8], at: usize) -> bool
     ensures { result ≡ closes book.now at }
 {
-    match Cursor::new(at).read(book, 3, 0) {
-        Found::Bad(_) => false,
-        Found::Body { start: _, next } => next.at <= Used::MOST,
-    }
+    record::is_at(book, at, 3, 0) && at + 4 <= Used::MOST
 }
 
 // The offset may be any, and so may the bytes.
@@ -40,35 +38,26 @@ pub fn step_at(book: &[u8], at: usize) -> Step
     if closes(book, at) {
         return Step::Close;
     }
-    if book.len() < at {
-        return Step::Wrong;
-    }
-    if book.len() - at < 2 {
+    if book.len() < at || book.len() - at < 2 {
         return Step::Wrong;
     }
     let length = little_endian::read_u16(book, at);
-    match Cursor::new(at).read(book, 5, length) {
-        Found::Bad(_) => Step::Wrong,
-        Found::Body { start, next } => {
-            let behind = next.at;
-            if length < 2 {
-                return Step::Wrong;
-            }
-            if Used::MOST < behind {
-                return Step::Wrong;
-            }
-            Step::Room {
-                room: little_endian::read_u16(book, start),
-                next: behind,
-            }
-        }
+    let Ok(body) = Cursor::new(at).read(book, 5, length) else {
+        return Step::Wrong;
+    };
+    if length < 2 || Used::MOST < body.next.at {
+        return Step::Wrong;
+    }
+    Step::Room {
+        room: little_endian::read_u16(book, body.start),
+        next: body.next.at,
     }
 }
 
 // ---- one walk over a book
 
 // What a walk has met: the bytes that it has passed; where a room's record stands, or would stand; and its bytes there, 0 where it is absent.
-#[derive(Drop)]
+#[derive(Clone, Copy, Default)]
 pub struct Slot {
     pub bytes: usize,
     pub at: usize,
@@ -76,83 +65,52 @@ pub struct Slot {
 }
 
 impl Slot {
-    fn none() -> Slot
-        ensures { result ≡ nothing_met }
-    {
-        Slot {
-            bytes: 0,
-            at: 0,
-            size: 0,
-        }
-    }
-
     // Past the record of a room, which ends at `next`.
+    #[tactic(auto, unfolding(crate::specs::Steps::past))]
     fn past(self, room: u16, here: u16, next: usize) -> Slot
         requires { self.bytes ≤ next }
         ensures { result ≡ past room here next self }
     {
+        let mut slot = Slot {
+            bytes: next,
+            ..self
+        };
         if here < room {
-            return Slot {
-                bytes: next,
-                at: next,
-                size: self.size,
-            };
+            slot.at = next;
         }
         if here == room {
-            return Slot {
-                bytes: next,
-                at: self.at,
-                size: next - self.bytes,
-            };
+            slot.size = next - self.bytes;
         }
-        Slot {
-            bytes: next,
-            at: self.at,
-            size: self.size,
-        }
-    }
-}
-
-// A sound book's slot for a room, or the book's refusal.
-#[derive(Drop)]
-pub enum Walked {
-    Sound(Slot),
-    Refused(u32, u32),
-}
-
-// Where the walk ends: 14 over the whole book, then 22 over the whole book, then the slot behind the closing record.
-fn ended(records: Judged, rising: Judged, slot: Slot) -> Walked
-    requires { slot.bytes ≤ most }
-    ensures { walked_of result ≡ (verdict_of records then verdict_of rising then given (closed slot)) }
-{
-    match answer::first(records, rising) {
-        Judged::Refused(number, place) => Walked::Refused(number, place),
-        Judged::Accepted => Walked::Sound(Slot {
-            bytes: slot.bytes + 4,
-            at: slot.at,
-            size: slot.size,
-        }),
+        slot
     }
 }
 
 // A record after the other: a 22 is kept, and told where the closing record is met.
-pub fn walk(book: &[u8], room: u16) -> Walked
+pub fn walk(book: &[u8], room: u16) -> Result<Slot, Refusal>
     ensures { walked_of result ≡ walked room book.now }
 {
-    let mut slot = Slot::none();
+    let mut slot = Slot::default();
     let mut low: u32 = 0;
-    let mut rising = Judged::Accepted;
+    let mut rising = Ok(());
     loop {
         let at = slot.bytes;
         match step_at(book, at) {
             Step::Wrong => {
-                return ended(Judged::Refused(14, at as u32), rising, slot);
+                return Err(Refusal {
+                    reason: Reason::BadRecord,
+                    place: at as u32,
+                });
             }
             Step::Close => {
-                return ended(Judged::Accepted, rising, slot);
+                rising?;
+                return Ok(Slot {
+                    bytes: slot.bytes + 4,
+                    ..slot
+                });
             }
             Step::Room { room: here, next } => {
-                rising = answer::first(rising, answer::refuse(22, at as u32, (here as u32) < low));
+                let falls = answer::refuse(Reason::UnsortedRoom, at as u32, (here as u32) < low);
+                rising = answer::first(rising, falls);
                 low = here as u32 + 1;
                 slot = slot.past(room, here, next);
             }
@@ -164,7 +122,7 @@ pub fn walk(book: &[u8], room: u16) -> Walked
 
 // Zeros behind a refusal.
 #[repr(C)]
-#[derive(Drop)]
+#[derive(Clone, Copy)]
 pub struct Used {
     pub number: u32,
     pub place: u32,
@@ -174,13 +132,16 @@ pub struct Used {
 impl Used {
     // A book has no more bytes.
     pub const MOST: usize = 16384;
+}
 
-    pub fn refused(number: u32, place: u32) -> Used
-        ensures { result ≡ in_use (refused number place) }
-    {
+#[tactic(auto, unfolding(crate::specs::Lookup::in_use))]
+impl From<Refusal> for Used {
+    ghost from_gives = { λ r u. u ≡ in_use (refused (number_of r.reason) r.place) };
+
+    fn from(refusal: Refusal) -> Used {
         Used {
-            number,
-            place,
+            number: refusal.number(),
+            place: refusal.place,
             bytes: 0,
         }
     }
@@ -191,8 +152,8 @@ pub fn check(book: &[u8]) -> Used
     ensures { result ≡ in_use (the_book book.now) }
 {
     match walk(book, 0) {
-        Walked::Refused(number, place) => Used::refused(number, place),
-        Walked::Sound(slot) => Used {
+        Err(refusal) => Used::from(refusal),
+        Ok(slot) => Used {
             number: 0,
             place: 0,
             bytes: slot.bytes as u32,
@@ -204,7 +165,7 @@ pub fn check(book: &[u8]) -> Used
 
 // Where a card stands in a book; zeros behind a refusal.
 #[repr(C)]
-#[derive(Drop)]
+#[derive(Clone, Copy)]
 pub struct Spot {
     pub number: u32,
     pub place: u32,
@@ -212,13 +173,14 @@ pub struct Spot {
     pub length: u32,
 }
 
-impl Spot {
-    fn refused(number: u32, place: u32) -> Spot
-        ensures { result ≡ spot_at 0 (refused number place) }
-    {
+#[tactic(auto, unfolding(crate::specs::Lookup::spot_at))]
+impl From<Refusal> for Spot {
+    ghost from_gives = { λ r p. p ≡ spot_at 0 (refused (number_of r.reason) r.place) };
+
+    fn from(refusal: Refusal) -> Spot {
         Spot {
-            number,
-            place,
+            number: refusal.number(),
+            place: refusal.place,
             start: 0,
             length: 0,
         }
@@ -233,29 +195,29 @@ pub fn own(card: &[u8]) -> Judged
 }
 
 // 14, 22, 20, then that card's own, its places counted in the card.
+fn found(book: &[u8], room: u16) -> Result<Spot, Refusal>
+    ensures { spot_of result ≡ spot room book.now }
+{
+    let slot = walk(book, room)?;
+    answer::refuse(Reason::NoRoom, 0, slot.size == 0)?;
+    let start = slot.at + 6;
+    let end = slot.at + slot.size;
+    own(&book[start..end])?;
+    Ok(Spot {
+        number: 0,
+        place: 0,
+        start: start as u32,
+        length: (end - start) as u32,
+    })
+}
+
+// Where the room's card stands.
 pub fn find(book: &[u8], room: u16) -> Spot
     ensures { result ≡ spot room book.now }
 {
-    match walk(book, room) {
-        Walked::Refused(number, place) => Spot::refused(number, place),
-        Walked::Sound(slot) => {
-            let at = slot.at;
-            let size = slot.size;
-            if size == 0 {
-                return Spot::refused(20, 0);
-            }
-            let start = at + 6;
-            let end = at + size;
-            match own(&book[start..end]) {
-                Judged::Refused(number, place) => Spot::refused(number, place),
-                Judged::Accepted => Spot {
-                    number: 0,
-                    place: 0,
-                    start: start as u32,
-                    length: (end - start) as u32,
-                },
-            }
-        }
+    match found(book, room) {
+        Err(refusal) => Spot::from(refusal),
+        Ok(spot) => spot,
     }
 }
 

@@ -2,6 +2,7 @@
 -- the value. Assumes nothing.
 use Rattle.std.specs.Prelude.{ℕ, ℤ}
 use Rattle.curve.specs.Formula.{Formula, num, worth, ∂^}
+use Rattle.weight_sheet.specs.declared.Row.{Row}
 use Rattle.weight_sheet.specs.Weight.{ordinate_weight, slope_weight, curvature_weight}
 use Rattle.weights.specs.declared.Weights.{Weights}
 use Rattle.weights.specs.declared.Quantity.{Quantity}
@@ -25,3 +26,7 @@ weighs q of h t = worth (∂^ (derivative q) (weight of (num h))) t
 
 unfoldable pub weigh : Quantity → ℤ → ℤ → Weights
 weigh q h t = record { ordinate = weighs q Value h t; slope = weighs q Slope h t; curvature = weighs q Curvature h t }
+
+-- a row of the weight sheet as weights
+abbrev pub weights_of : Row → Weights
+weights_of r = record { ordinate = r.ordinate; slope = r.slope; curvature = r.curvature }

@@ -3,7 +3,9 @@
 
 ghost use Rattle.std.specs.Prelude.{◌≡◌};
 ghost use Rattle.gaps.specs.Limits.{InGap};
-ghost use Rattle.weights.specs.Weights.{weigh};
+ghost use Rattle.weights.specs.Weights.{weigh, weights_of};
+
+use weight_sheet::Row;
 
 // What is read off the curve at a minute.
 #[derive(Clone, Copy)]
@@ -14,11 +16,23 @@ pub enum Quantity {
 }
 
 // What the ordinate, the slope and the curvature of a gap's left knot weigh in a quantity. The right knot's weights are these, seen from the right.
-#[derive(Drop)]
+#[derive(Clone, Copy)]
 pub struct Weights {
     pub ordinate: i64,
     pub slope: i64,
     pub curvature: i64,
+}
+
+impl From<Row> for Weights {
+    ghost from_gives = { λ row w. w ≡ weights_of row };
+
+    fn from(row: Row) -> Weights {
+        Weights {
+            ordinate: i64::from(row.ordinate),
+            slope: i64::from(row.slope),
+            curvature: i64::from(row.curvature),
+        }
+    }
 }
 
 impl Weights {
@@ -41,13 +55,9 @@ impl Weights {
         requires { InGap h t }
         ensures { result ≡ weigh Quantity.Value h t }
     {
-        match weight_sheet::Found::of(h as usize, t as usize) {
-            weight_sheet::Found::There(row) => Weights {
-                ordinate: row.ordinate as i64,
-                slope: row.slope as i64,
-                curvature: row.curvature as i64,
-            },
-            weight_sheet::Found::Nothing => Weights::by_formula(h, t),
+        match Row::at(h as usize, t as usize) {
+            Some(row) => Weights::from(row),
+            None => Weights::by_formula(h, t),
         }
     }
 

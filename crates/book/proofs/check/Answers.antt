@@ -1,20 +1,14 @@
--- `book::check` meets its contract, by the walk's answer. Assumes nothing.
-use mathlib.Core.Path.{sym, ap, ◌∙◌}
+-- `check` meets its contract, by the walk's answer. Assumes nothing.
+use mathlib.Core.Path.{◌∙◌, sym}
 use native.Mathlib.Omega.{arith}
-use borrow.Author.Rules.{rules}
-use Rattle.book.specs.Steps.{walked_of}
-use Rattle.book.proofs.Answers.{walk_refused, Walks, walk_sound, told_refused, told_bytes}
+use Rattle.book.proofs.Answers.{walk_refused, walk_sound, told_refused, told_bytes}
 use Rattle.book.proofs.check.Goals as goal
-use Rattle.book.proofs.check.Goals.{After-struct_known-1}
 
-walks : (c : After-struct_known-1) → Walks 0 c.args.book.now c.in-Sound.slot
-walks c = walk_sound 0 _ (sym c.walk.ensures ∙ ap walked_of c.in-Sound.is)
+pub returns-in-Err : goal.returns-in-Err
+returns-in-Err c = c.from.ensures ∙ told_refused _ (walk_refused 0 _ (sym c.in-Err.ensures))
 
-pub returns-in-Refused : goal.returns-in-Refused
-returns-in-Refused c = c.refused.ensures ∙ told_refused _ (walk_refused 0 _ (sym c.walk.ensures ∙ ap walked_of c.in-Refused.is))
-
-pub returns-in-Sound : goal.returns-in-Sound
-returns-in-Sound c = told_bytes (walks c)
+pub returns-in-Ok : goal.returns-in-Ok
+returns-in-Ok c = told_bytes (walk_sound 0 c.args.book.now (sym c.in-Ok.ensures))
 
 pub overflow_cast-result : goal.overflow_cast-result
-overflow_cast-result c = omega (arith, (walks c).within)
+overflow_cast-result c = let w = walk_sound 0 c.args.book.now (sym c.in-Ok.ensures) in omega (arith, w.within)

@@ -3,7 +3,6 @@ use Prim.Native.Nat.{◌+◌, ◌-◌}
 use mathlib.Core.Path.{◌≡◌, ap, ◌∙◌}
 use native.Mathlib.Omega.{arith}
 use lib.ListN.{take, drop}
-use borrow.Author.Rules.{rules}
 use Rattle.book.specs.Lookup.{part, look_up}
 use Rattle.book.proofs.Answers.{Handed, handed}
 use Rattle.book.proofs.lookup.Goals as goal

@@ -1,14 +1,8 @@
--- `book::walk` meets its contract. Assumes nothing.
+-- `walk`: what it has met so far. Assumes nothing.
 use Prim.Native.Nat.{◌-◌}
-use mathlib.Core.Path.{◌≡◌, ap, ◌∙◌}
-use native.Mathlib.Omega.{arith}
 use lib.ListN.{length}
-use borrow.Author.Rules.{rules}
-use Rattle.answer.specs.Answer.{◌then◌}
 use Rattle.answer.specs.Judge.{verdict_of}
-use Rattle.book.specs.Steps.{past}
-use Rattle.book.proofs.Standing.{holding, Told, told_close, told_wrong, told_room}
-use Rattle.book.proofs.Walks.{Going, going_starts, going_wrong, going_closed, going_on}
+use Rattle.book.proofs.Walks.{Going}
 use Rattle.book.proofs.walk.Given as goal
 
 abbrev pub invariant-loop-here : goal.invariant-loop-here

@@ -1,30 +1,33 @@
 -- `jump_at` meets its contract: the arithmetic of the gaps beside the knot, which the test takes too.
 -- Assumes nothing.
-use mathlib.Core.Path.{◌≡◌, sym, ◌∙◌, ap, subst}
-use Prim.Native.Nat.{ℕ, ◌+◌, ◌-◌, ◌≤◌, ◌<◌, ◌^◌, min}
+use mathlib.Core.Path.{◌≡◌, sym, ◌∙◌, ap}
+use Prim.Native.Nat.{ℕ, ◌+◌, ◌-◌, ◌≤◌, ◌^◌, min}
 use native.Mathlib.Omega.{arith}
 use borrow.Author.Rules.{rules}
 use lib.IntN.{ℤ, pos, nat_abs}
 use lib.ListN.{length}
+use mathlib.Core.List.{List}
 use mir.Syntax.{w64}
 use mir.Val.{to_z, of_z}
-use mir.Facts.{to_z-of_z, to_z_pos}
+use mir.Facts.{to_z_pos}
+use Rattle.whole.proofs.Order.{abs_neg}
+use Rattle.whole.proofs.Linear.{abs_fits}
 use Rattle.curve.specs.Card.{back}
 use Rattle.gaps.specs.declared.Knot.{Knot}
 use Rattle.minutes.specs.Gaps.{left_gap, right_gap}
 use Rattle.jumps.specs.declared.Order.{Order}
 use Rattle.jumps.specs.Sides.{jump_of, leeways}
-use Rattle.jumps.specs.Limits.{Beside, Allowed, Tried}
+use Rattle.jumps.specs.Limits.{Beside, Allowed}
 use Rattle.jumps.proofs.Comparing.{h_gap, q_gap, jump_fits}
 use Rattle.lists.specs.Lists.{numbers_at, square_of}
 use Rattle.lists.proofs.Settled.{settled_knot, jump_there, allowed_there}
 use Rattle.explain.specs.Explain.{jump_at}
 use Rattle.explain.proofs.jump_at.Goals as goal
-use Rattle.explain.proofs.jump_at.Goals.{After-jump, After-right_gap-h, After-squares, Start}
+use Rattle.explain.proofs.jump_at.Goals.{After-right_gap-h, After-jump, After-squares}
 
-back_below : (i : ℕ) → back i ≤ i
+pub knot-before-requires : goal.knot-before-requires
 unfolding back
-back_below i = omega arith
+knot-before-requires c = omega (arith, c.back.ensures)
 
 -- ---- the numbers that `jump` and `allowance` are handed
 
@@ -48,79 +51,73 @@ module _ {q h q' h' : ℤ} {b k a b' k' a' : Knot} (e : Handed q h q' h' b k a b
   leeways_same : {s s' : ℤ} (o : Order) → s ≡ s' → leeways o s q h ≡ leeways o s' q' h'
   leeways_same o f = rw (f, e.q_is, e.h_is)
 
-abbrev start : After-right_gap-h → Start
-start c = (goal.at.After-right_gap-h c).Start
+module _ (c : After-right_gap-h) where
+  abbrev xs : List ℕ
+  xs = c.args.lists.minutes.now
 
-abbrev numbers : Start → ℕ → Knot
-numbers c = numbers_at c.args.ys.now c.args.ms.now c.args.cs.now
+  abbrev i : ℕ
+  i = c.args.i
 
-abbrev after : Start → ℕ
-after c = min (c.args.i + 1) (length c.args.xs.now - 1)
+  abbrev numbers : ℕ → Knot
+  numbers = numbers_at c.args.lists.ordinates.now c.args.lists.slopes.now c.args.lists.curvatures.now
 
-handed : (c : After-right_gap-h) →
-    (let d = start c in
-    Handed (to_z w64 c.left_gap-q.result) (to_z w64 c.right_gap-h.result) (pos (left_gap d.args.xs.now d.args.i)) (pos (right_gap d.args.xs.now d.args.i))
-    c.knot_at-before.result c.knot_at-here.result c.knot_at-after.result
-    (numbers d (back d.args.i)) (numbers d d.args.i) (numbers d (after d)))
-handed c =
-    record {
-      q_is = to_z_pos w64 (omega (arith, c.left_gap-q.type_inv)) ∙ ap pos c.left_gap-q.ensures;
-      h_is = to_z_pos w64 (omega (arith, c.right_gap-h.type_inv)) ∙ ap pos c.right_gap-h.ensures;
-      before_is = c.knot_at-before.ensures ∙ ap (numbers (start c)) c.back.ensures;
-      here_is = c.knot_at-here.ensures;
-      after_is = c.knot_at-after.ensures ∙ ap (numbers (start c)) c.on.ensures;
-    }
+  handed :
+      Handed (to_z w64 c.left_gap-q.result) (to_z w64 c.right_gap-h.result) (pos (left_gap xs i)) (pos (right_gap xs i))
+      c.knot-before.result c.knot-here.result c.knot-after.result
+      (numbers (back i)) (numbers i) (numbers (min (i + 1) (length xs - 1)))
+  handed =
+      record {
+        q_is = to_z_pos w64 {n = c.left_gap-q.result} (omega (arith, c.left_gap-q.type_inv)) ∙ ap pos c.left_gap-q.ensures;
+        h_is = to_z_pos w64 {n = c.right_gap-h.result} (omega (arith, c.right_gap-h.type_inv)) ∙ ap pos c.right_gap-h.ensures;
+        before_is = c.knot-before.ensures ∙ ap numbers c.back.ensures;
+        here_is = c.knot-here.ensures;
+        after_is = c.knot-after.ensures ∙ ap numbers c.on.ensures;
+      }
 
-beside : (c : Start) → Beside (pos (left_gap c.args.xs.now c.args.i)) (pos (right_gap c.args.xs.now c.args.i)) (numbers c (back c.args.i)) (numbers c c.args.i) (numbers c (after c))
-beside c = (settled_knot c.requires.checked c.args.i c.requires.i_in_bounds 0 (omega arith)).beside
-
-pub knot_at-before-requires : goal.knot_at-before-requires
-knot_at-before-requires c =
-    let d = (goal.at.knot_at-before-requires c).Start in
-    let l = d.requires.checked.long in
-    let b : c.back.result ≤ d.args.i = subst (λ j. j ≤ d.args.i) (sym c.back.ensures) (back_below d.args.i) in
-    (omega (arith, d.requires.i_in_bounds, l.ordinates), omega (arith, d.requires.i_in_bounds, l.slopes), omega (arith, d.requires.i_in_bounds, l.curvatures))
+  beside : Beside (pos (left_gap xs i)) (pos (right_gap xs i)) (numbers (back i)) (numbers i) (numbers (min (i + 1) (length xs - 1)))
+  beside = (settled_knot c.args.lists.checked i c.requires 0 (omega arith)).beside
 
 pub jump-requires : goal.jump-requires
-jump-requires c = beside_same (handed c) (beside (start c))
+jump-requires c = beside_same (handed c) (beside c)
 
 -- ---- what they give
 
 jump_is : (c : After-jump) → to_z w64 (of_z w64 c.jump.result) ≡ c.jump.result
-jump_is c = to_z-of_z {w = w64} {z = c.jump.result} (record { sfits = c.jump.type_inv })
+jump_is c = search rules
 
-pub size-requires : goal.size-requires
-size-requires c =
-    let g = (goal.at.size-requires c).After-right_gap-h in
-    let o = (start g).args.order in
-    rw (jump_is c, c.jump.ensures, jump_same (handed g) o) (jump_fits (beside (start g)) o)
+pub abs-requires : goal.abs-requires
+abs-requires c =
+    let g = (goal.at.abs-requires c).After-right_gap-h in
+    let o = c.args.order in
+    rw (jump_is c, c.jump.ensures, jump_same (handed g) o) (abs_fits (rw abs_neg (jump_fits (beside g) o)))
 
-squares_is : (c : After-squares) → to_z w64 (of_z w64 c.squares.result) ≡ (let a = (start (goal.at.After-squares c).After-right_gap-h).args in pos (square_of a.kind a.order))
-squares_is c = to_z-of_z {w = w64} {z = c.squares.result} (record { sfits = c.squares.type_inv }) ∙ c.squares.ensures.0
+squares_is : (c : After-squares) → to_z w64 (of_z w64 c.squares.result) ≡ pos (square_of c.args.kind c.args.order)
+squares_is c = let e : to_z w64 (of_z w64 c.squares.result) ≡ c.squares.result = search rules in e ∙ c.squares.ensures.0
 
 pub allowance-requires : goal.allowance-requires
 allowance-requires c =
     let g = (goal.at.allowance-requires c).After-right_gap-h in
-    allowed_same (handed g) (squares_is c) c.squares.ensures.1 (beside (start g))
+    allowed_same (handed g) (squares_is c) c.squares.ensures.1 (beside g)
 
 pub returns : goal.returns
 unfolding jump_at
 returns c left right =
     let g = (goal.at.returns c).After-right_gap-h in
-    let a = (start g).args in
-    let k = (start g).requires in
-    let size = c.size in
+    let a = c.args in
+    let l = a.lists in
+    let size : to_z w64 (of_z w64 c.abs.result) ≡ c.abs.result = search rules in
+    let allowance : to_z w64 (of_z w64 c.allowance.result) ≡ c.allowance.result = search rules in
     λ j.
     record {
       size =
-          (to_z-of_z {w = w64} {z = size.result} (record { sfits = size.type_inv })
-          ∙ size.ensures
+          (size
+          ∙ c.abs.ensures.value
           ∙ ap (λ z. pos (nat_abs z))
           (jump_is (goal.at.returns c).After-jump ∙ c.jump.ensures ∙ jump_same (handed g) a.order
-          ∙ sym (jump_there a.kind a.order left right a.xs.now a.ys.now a.ms.now a.cs.now a.i k.checked k.i_in_bounds))) j;
+          ∙ sym (jump_there a.kind a.order left right l.minutes.now l.ordinates.now l.slopes.now l.curvatures.now a.i l.checked c.requires))) j;
       allowance =
-          (to_z-of_z {w = w64} {z = c.allowance.result} (record { sfits = c.allowance.type_inv })
+          (allowance
           ∙ c.allowance.ensures
           ∙ leeways_same (handed g) a.order (squares_is (goal.at.returns c).After-squares)
-          ∙ sym (allowed_there a.kind a.order left right a.xs.now a.ys.now a.ms.now a.cs.now a.i)) j;
+          ∙ sym (allowed_there a.kind a.order left right l.minutes.now l.ordinates.now l.slopes.now l.curvatures.now a.i)) j;
     }

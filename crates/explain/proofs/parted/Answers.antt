@@ -2,15 +2,12 @@
 -- Assumes nothing.
 use mathlib.Core.Path.{◌≡◌, sym, ◌∙◌, ap, ap₂, subst}
 use Prim.Native.Nat.{ℕ, ◌+◌, ◌-◌, ◌*◌, ◌<◌, ◌^◌}
-use native.Mathlib.Omega.{arith}
 use borrow.Author.Rules.{rules}
-use lib.IntN.{ℤ, pos, nat_abs}
+use lib.IntN.{pos, nat_abs}
 use lib.ListN.{get_or}
-use lib.Dec.{T}
-use lib.Signed.{non_neg}
-use mir.Syntax.{w32, w64}
-use mir.Val.{SFits, Fits, to_z, of_z}
-use mir.Facts.{to_z-of_z, to_z_pos}
+use mir.Syntax.{w64}
+use mir.Val.{to_z, of_z}
+use mir.Facts.{to_z_pos}
 use Rattle.curve.specs.Card.{Card, knot, gap}
 use Rattle.curve.specs.Reading.{denominator}
 use Rattle.knots.specs.Lent.{lent}
@@ -18,86 +15,81 @@ use Rattle.gaps.specs.Limits.{InGap}
 use Rattle.weights.specs.declared.Quantity.TheVariants.{Value}
 use Rattle.parts.specs.declared.Parts.{Parts}
 use Rattle.parts.specs.Parts.{parts}
+use Rattle.explain.specs.declared.Explained.{Explained}
+use Rattle.parts.specs.Limits.{Tame}
 use Rattle.lists.specs.declared.Spell.{Spell}
 use Rattle.lists.proofs.Settled.{spelt_asks}
-use Rattle.explain.specs.declared.Explained.{Explained}
 use Rattle.explain.specs.Explain.{parts_from, parted, sizes}
 use Rattle.explain.proofs.Fitting.{whole_gap, under_fits, parted_fits}
 use Rattle.explain.proofs.parted.Goals as goal
-use Rattle.explain.proofs.parted.Goals.{After-denominator, After-of-parts, After-struct_told-2-1, After-struct_told-4-1, Start}
+use Rattle.explain.proofs.parted.Goals.{After-spell-spell, After-of, After-denominator}
 
-module _ (c : After-struct_told-2-1) where
-  abbrev d : Start
-  d = (goal.at.After-struct_told-2-1 c).Start
-
+module _ (c : After-spell-spell) where
   abbrev spell : Spell
-  spell = c.spell_at-spell.result
+  spell = c.spell-spell.result
 
   abbrev h : ℕ
-  h = get_or d.args.xs.now (d.args.i + 1) 0 - get_or d.args.xs.now d.args.i 0
-
-  abbrev t : ℕ
-  t = d.args.minute - get_or d.args.xs.now d.args.i 0
+  h = let xs = c.args.lists.minutes.now in get_or xs (c.args.i + 1) 0 - get_or xs c.args.i 0
 
   abbrev card : Card
-  card = lent d.args.xs.now d.args.ys.now d.args.ms.now d.args.cs.now 0 0
+  card = let l = c.args.lists in lent l.minutes.now l.ordinates.now l.slopes.now l.curvatures.now 0 0
 
   kept_h : to_z w64 (of_z w64 spell.h) ≡ spell.h
-  kept_h = to_z-of_z {w = w64} {z = spell.h} (record { sfits = c.struct_told-1.given.0.1 })
+  kept_h = search rules
 
   kept_t : to_z w64 (of_z w64 spell.t) ≡ spell.t
-  kept_t = to_z-of_z {w = w64} {z = spell.t} (record { sfits = c.struct_told-1.given.1.0.1 })
+  kept_t = search rules
 
   h_is : to_z w64 (of_z w64 spell.h) ≡ pos h
-  h_is = kept_h ∙ ap (λ (s : Spell). s.h) c.spell_at-spell.ensures
+  h_is = kept_h ∙ ap (λ (s : Spell). s.h) c.spell-spell.ensures
 
-  t_is : to_z w64 (of_z w64 spell.t) ≡ pos t
-  t_is = kept_t ∙ ap (λ (s : Spell). s.t) c.spell_at-spell.ensures
+  asked : InGap (to_z w64 (of_z w64 spell.h)) (to_z w64 (of_z w64 spell.t)) × Tame (to_z w64 (of_z w64 spell.h)) spell.from spell.to
+  asked = spelt_asks c.args.lists.checked c.requires c.spell-spell.ensures kept_h kept_t
 
-pub of-parts-requires : goal.of-parts-requires
-of-parts-requires c =
-    let told = (let s = (goal.at.of-parts-requires c).After-struct_told-2-1 in
-    spelt_asks (d s).requires.checked (d s).requires.in_place s.spell_at-spell.ensures (kept_h s) (kept_t s)) in record { in_gap = told.0; tame = told.1 }
+pub of-requires-clause-in_gap : goal.of-requires-clause-in_gap
+of-requires-clause-in_gap c = (asked (goal.at.of-requires-clause-in_gap c).After-spell-spell).0
 
-parts_are : (c : After-of-parts) → (let s = (goal.at.After-of-parts c).After-struct_told-2-1 in c.of-parts.result ≡ parts_from (card s) (d s).args.i (d s).args.minute)
-unfolding parts_from knot gap
-parts_are c =
-    let s = (goal.at.After-of-parts c).After-struct_told-2-1 in
-    c.of-parts.ensures
-    ∙ ap₂ (λ h t. parts Value h t (spell s).from (spell s).to) (kept_h s) (kept_t s)
-    ∙ ap (λ (s : Spell). parts Value s.h s.t s.from s.to) s.spell_at-spell.ensures
-
-pub overflow_cast-result-2 : goal.overflow_cast-result-2
-overflow_cast-result-2 c = let s = (goal.at.overflow_cast-result-2 c).After-struct_told-2-1 in subst (λ z. T (non_neg z) × Fits w32 (nat_abs z)) (sym (t_is s)) (tt, record { fits = omega (arith, (d s).ranges.minute) })
+pub of-requires-clause-tame : goal.of-requires-clause-tame
+of-requires-clause-tame c = (asked (goal.at.of-requires-clause-tame c).After-spell-spell).1
 
 pub denominator-requires : goal.denominator-requires
-denominator-requires c = let s = (goal.at.denominator-requires c).After-struct_told-2-1 in subst (λ z. InGap z z) (sym (h_is s)) (whole_gap (d s).requires.checked (d s).requires.in_place)
+denominator-requires c =
+    let s = (goal.at.denominator-requires c).After-spell-spell in
+    subst (λ z. InGap z z) (sym (h_is s)) (whole_gap c.args.lists.checked c.requires)
 
-under_is : (c : After-denominator) → (let s = (goal.at.After-denominator c).After-struct_told-2-1 in c.denominator.result ≡ 8192 * h s ^ 5)
-under_is c = c.denominator.ensures ∙ ap (λ z. 8192 * nat_abs z ^ 5) (h_is (goal.at.After-denominator c).After-struct_told-2-1)
+under_is : (c : After-denominator) → c.denominator.result ≡ 8192 * h (goal.at.After-denominator c).After-spell-spell ^ 5
+under_is c = c.denominator.ensures ∙ ap (λ z. 8192 * nat_abs z ^ 5) (h_is (goal.at.After-denominator c).After-spell-spell)
 
 under_small : (c : After-denominator) → c.denominator.result < 2 ^ 63
-under_small c = let s = (goal.at.After-denominator c).After-struct_told-2-1 in rw (under_is c) (under_fits (d s).requires.checked (d s).requires.in_place)
+under_small c = rw (under_is c) (under_fits c.args.lists.checked c.requires)
 
-module _ (c : After-struct_told-4-1) where
-  abbrev s : After-struct_told-2-1
-  s = (goal.at.After-struct_told-4-1 c).After-struct_told-2-1
+pub overflow_cast-result-3 : goal.overflow_cast-result-3
+overflow_cast-result-3 c = record { sfits = under_small (goal.at.overflow_cast-result-3 c).After-denominator }
 
+parts_are : (c : After-of) → (let s = (goal.at.After-of c).After-spell-spell in c.of.result ≡ parts_from (card s) c.args.i c.args.minute)
+unfolding parts_from knot gap
+parts_are c =
+    let s = (goal.at.After-of c).After-spell-spell in
+    c.of.ensures
+    ∙ ap₂ (λ h t. parts Value h t (spell s).from (spell s).to) (kept_h s) (kept_t s)
+    ∙ ap (λ (s : Spell). parts Value s.h s.t s.from s.to) s.spell-spell.ensures
+
+module _ (c : After-denominator) where
   abbrev p : Parts
-  p = c.of-parts.result
+  p = c.of.result
 
-  abbrev parts_is : p ≡ parts_from (card s) (d s).args.i (d s).args.minute
-  parts_is = parts_are (goal.at.After-struct_told-4-1 c).After-of-parts
+  abbrev s : After-spell-spell
+  s = (goal.at.After-denominator c).After-spell-spell
 
-  passed : (z : ℤ) → SFits w64 z → to_z w64 (of_z w64 z) ≡ z
-  passed z f = to_z-of_z {w = w64} {z = z} f
+  parts_is : p ≡ parts_from (card s) c.args.i c.args.minute
+  parts_is = parts_are (goal.at.After-denominator c).After-of
 
   answer_is :
       ◌≡◌ {A = Explained}
       (record {
         number = 0;
         place = 0;
-        gap = (d s).args.i;
+        gap = c.args.i;
         minutes = nat_abs (to_z w64 (of_z w64 (spell s).t));
         ordinate = to_z w64 (of_z w64 p.left.ordinate);
         ordinate1 = to_z w64 (of_z w64 p.right.ordinate);
@@ -111,32 +103,37 @@ module _ (c : After-struct_told-4-1) where
         jump = pos 0;
         allowance = pos 0;
       })
-      (parted (card s) (d s).args.i (d s).args.minute)
+      (parted (card s) c.args.i c.args.minute)
   unfolding parted knot gap denominator
   answer_is j =
-      let l = c.struct_told-3-1.given in
-      let r = c.struct_told-4-1.given in
+      let y : to_z w64 (of_z w64 p.left.ordinate) ≡ p.left.ordinate = search rules in
+      let y1 : to_z w64 (of_z w64 p.right.ordinate) ≡ p.right.ordinate = search rules in
+      let m : to_z w64 (of_z w64 p.left.slope) ≡ p.left.slope = search rules in
+      let m1 : to_z w64 (of_z w64 p.right.slope) ≡ p.right.slope = search rules in
+      let k : to_z w64 (of_z w64 p.left.curvature) ≡ p.left.curvature = search rules in
+      let k1 : to_z w64 (of_z w64 p.right.curvature) ≡ p.right.curvature = search rules in
       record {
         number = 0;
         place = 0;
-        gap = (d s).args.i;
-        minutes = ap nat_abs (t_is s) j;
-        ordinate = (passed p.left.ordinate (record { sfits = l.0.1 }) ∙ ap (λ p. p.left.ordinate) parts_is) j;
-        ordinate1 = (passed p.right.ordinate (record { sfits = r.0.1 }) ∙ ap (λ p. p.right.ordinate) parts_is) j;
-        slope = (passed p.left.slope (record { sfits = l.1.0.1 }) ∙ ap (λ p. p.left.slope) parts_is) j;
-        slope1 = (passed p.right.slope (record { sfits = r.1.0.1 }) ∙ ap (λ p. p.right.slope) parts_is) j;
-        curvature = (passed p.left.curvature (record { sfits = l.1.1.0.1 }) ∙ ap (λ p. p.left.curvature) parts_is) j;
-        curvature1 = (passed p.right.curvature (record { sfits = r.1.1.0.1 }) ∙ ap (λ p. p.right.curvature) parts_is) j;
-        denominator = (to_z_pos w64 (under_small (goal.at.After-struct_told-4-1 c).After-denominator) ∙ ap pos (under_is (goal.at.After-struct_told-4-1 c).After-denominator)) j;
+        gap = c.args.i;
+        minutes = ap nat_abs (kept_t s ∙ ap (λ (s : Spell). s.t) c.spell-spell.ensures) j;
+        ordinate = (y ∙ ap (λ p. p.left.ordinate) parts_is) j;
+        ordinate1 = (y1 ∙ ap (λ p. p.right.ordinate) parts_is) j;
+        slope = (m ∙ ap (λ p. p.left.slope) parts_is) j;
+        slope1 = (m1 ∙ ap (λ p. p.right.slope) parts_is) j;
+        curvature = (k ∙ ap (λ p. p.left.curvature) parts_is) j;
+        curvature1 = (k1 ∙ ap (λ p. p.right.curvature) parts_is) j;
+        denominator = (to_z_pos w64 (under_small c) ∙ ap pos (under_is c)) j;
         knot = 0;
         order = 0;
         jump = pos 0;
         allowance = pos 0;
       }
 
-pub returns : goal.returns
-returns c =
-    record { value = answer_is c; fits = subst (λ e. sizes e < 2 ^ 63) (sym (answer_is c)) (parted_fits (d (s c)).requires.checked (d (s c)).requires.in_place) }
+pub returns-clause-value : goal.returns-clause-value
+returns-clause-value c = answer_is (goal.at.returns-clause-value c).After-denominator
 
-pub overflow_cast-result-3 : goal.overflow_cast-result-3
-overflow_cast-result-3 c = record { sfits = under_small c }
+pub returns-clause-fits : goal.returns-clause-fits
+returns-clause-fits c =
+    let d = (goal.at.returns-clause-fits c).After-denominator in
+    subst (λ e. sizes e < 2 ^ 63) (sym (answer_is d)) (parted_fits c.args.lists.checked c.requires)
