@@ -3,6 +3,7 @@ ghost use Rattle.std.specs.Prelude.{◌+◌, ◌≤◌, length};
 
 use crate::print::{Bytes, Numbers, Verdict};
 use std::io::{Print, Result};
+use unknowns::Unknown;
 
 // What a record asks about bytes, or about knots, by its number; `Text` is a text to print.
 #[derive(Clone, Copy)]
@@ -270,12 +271,16 @@ fn preheat(rt: HostRuntime, parts: u16, count: u16, values: &[i16]) -> Result<()
 }
 
 fn unknown(rt: HostRuntime, place: u16, values: &[i16]) -> Result<()> {
-    let answer = unknowns::unknown_at(values, place);
-    let verdict = Verdict(answer.number, answer.place);
-    print!(rt;
-        "unknown {verdict}; unknown {}; scale {}",
-        answer.unknown, answer.scale
-    )
+    match unknowns::unknown_at(values, place) {
+        Ok(answer) => {
+            let Unknown { unknown, scale } = answer;
+            print!(rt; "unknown ok; unknown {unknown}; scale {scale}")
+        }
+        Err(refusal) => {
+            let verdict = Verdict(refusal.number(), refusal.place);
+            print!(rt; "unknown {verdict}; unknown 0; scale 0")
+        }
+    }
 }
 
 // In place of the left end's code, mending has how many places its list of changes has; in place of both codes,

@@ -194,9 +194,7 @@ pub(crate) fn put(rt: HostRuntime, card: Source, room: u16, care: Care) -> Done 
         "replaced"
     };
     let opened = Opened::by_head(card.bytes);
-    opened.verdict.map_err(|refusal| {
-        crate::tell::refused(rt, card.name, refusal.number(), refusal.place)
-    })?;
+    crate::tell::judged(rt, card.name, opened.verdict)?;
     crate::swings::allow(rt, card, &[], care)?;
     let reach = Reach::of(opened.card);
     put_in(rt, file, &mut book, done, room, card.bytes, reach)

@@ -31,7 +31,7 @@ enum Report {
 fn list(rt: HostRuntime, source: Source) -> Done {
     let mut text = io::buffer();
     let listed = card_listing::list_card(source.bytes, &mut text);
-    crate::tell::accepted(rt, source.name, listed.number, listed.place)?;
+    crate::tell::judged(rt, source.name, listed.verdict)?;
     crate::tell::print(rt, front(&text, listed.length))
 }
 
@@ -82,9 +82,7 @@ fn sound(rt: HostRuntime, source: Source, kind: Kind, card: Card, report: Report
 
 fn opened(rt: HostRuntime, source: Source, report: Report) -> Done {
     let opened = Opened::by_head(source.bytes);
-    opened.verdict.map_err(|refusal| {
-        crate::tell::refused(rt, source.name, refusal.number(), refusal.place)
-    })?;
+    crate::tell::judged(rt, source.name, opened.verdict)?;
     sound(rt, source, opened.kind, opened.card, report)
 }
 

@@ -41,7 +41,7 @@ impl Cut {
 
 // `-51.1838`. What is cut to nothing has no sign.
 fn hundredths(part: i64, over: u64) -> Text {
-    let cut = Cut::of(decimal::magnitude(part), over);
+    let cut = Cut::of(part.unsigned_abs(), over);
     let sign = if part < 0 && cut != Cut::NOTHING {
         "-"
     } else {
@@ -98,7 +98,7 @@ fn heading(rt: HostRuntime, minute: u16, told: Explained, card: Card) -> Done {
 
 // What cannot be written is told once.
 fn rows(rt: HostRuntime, told: Explained, card: Card) -> Done {
-    let over = decimal::magnitude(told.denominator);
+    let over = told.denominator.unsigned_abs();
     let a = told.gap as usize;
     let b = a + 1;
     let ys = card.ordinates;
@@ -151,8 +151,8 @@ fn because(rt: HostRuntime, name: &[u8], told: Explained, card: Card) -> Undone 
     let knot = told.knot;
     let minute = at(&card.minutes, knot as usize);
     let which = if told.order == 3 { "third" } else { "fourth" };
-    let jump = decimal::magnitude(told.jump);
-    let allowed = decimal::magnitude(told.allowance);
+    let jump = told.jump.unsigned_abs();
+    let allowed = told.allowance.unsigned_abs();
     let more = jump.saturating_sub(allowed);
     let powers = powers(card, knot, told.order);
     let place = format_args!(": knot {knot}, minute {minute}: refused 10");
@@ -192,6 +192,6 @@ pub(crate) fn print(rt: HostRuntime, source: Source, minute: u16) -> Done {
     heading(rt, minute, told, opened.card)?;
     rows(rt, told, opened.card)?;
     let reading = card::reading(source.bytes, minute);
-    let over = decimal::magnitude(told.denominator);
+    let over = told.denominator.unsigned_abs();
     sum_row(rt, sum, over, reading.value)
 }

@@ -1,4 +1,5 @@
 // What a command ends with, and what it says.
+use answer::Judged;
 use std::fmt::{Display, InlineText};
 use std::io::{Eprint, Error, ErrorKind, Print};
 use std::ops::Range;
@@ -77,7 +78,11 @@ pub(crate) fn refused(rt: HostRuntime, name: &[u8], number: u32, place: u32) -> 
     Undone::Refused
 }
 
-// What answers a number of refusal, 0 for none, and a place.
+pub(crate) fn judged(rt: HostRuntime, name: &[u8], verdict: Judged) -> Done {
+    verdict.map_err(|refusal| refused(rt, name, refusal.number(), refusal.place))
+}
+
+// What answers a number of refusal, 0 for none, and a place, as C receives them.
 pub(crate) fn accepted(rt: HostRuntime, name: &[u8], number: u32, place: u32) -> Done {
     if number == 0 {
         return Ok(());
