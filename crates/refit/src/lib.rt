@@ -14,7 +14,6 @@ ghost use Rattle.refit.specs.Differing.{differing};
 ghost use Rattle.refit.specs.Fresh.{fresh_between, fresh};
 ghost use Rattle.refit.specs.Promise.{changed, Refits, Renews};
 
-use answer::Judged;
 use decode::Card;
 use knots::Kind;
 use lines::hundredths;
@@ -36,12 +35,10 @@ fn differing(held: &[i32], anew: &[i32]) -> u32
     ensures { (result ≡ differing ℤ_discrete held.now anew.now) × (result ≤ most) }
 {
     let mut count = 0;
-    let mut i = 0;
-    while i < held.len() {
+    for i in 0..held.len() {
         if held[i] != anew[i] {
             count += 1;
         }
-        i += 1;
     }
     count
 }
@@ -146,13 +143,13 @@ pub fn refit(card: &[u8], slopes: &mut [i32], curvatures: &mut [i32]) -> Refitte
     let held = opened.card;
     let n = held.knots;
     let lent = slopes.len();
-    match card::into(opened, lent, lent, lent, curvatures.len()) {
-        Judged::Refused(number, place) => Refitted {
-            number,
-            place,
+    match card::into(&opened, lent, lent, lent, curvatures.len()) {
+        Err(refusal) => Refitted {
+            number: refusal.number(),
+            place: refusal.place,
             knots: 0,
             changed: 0,
         },
-        Judged::Accepted => anew(kind, held, &mut slopes[..n], &mut curvatures[..n]),
+        Ok(()) => anew(kind, held, &mut slopes[..n], &mut curvatures[..n]),
     }
 }
