@@ -36,6 +36,7 @@ fn list(rt: HostRuntime, source: Source) -> Done {
 }
 
 // The looks for the minute's gap stand behind the three numbers.
+#[tactic(auto, using(listing::proofs::Lengths::length_counted_line))]
 fn print_reading(rt: HostRuntime, minute: u16, reading: lists::CardReading) -> Done {
     let mut text = io::buffer();
     let n = listing::counted_line(

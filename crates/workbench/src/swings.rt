@@ -168,6 +168,7 @@ impl Warner<'_> {
     }
 
     // Of a card by its bytes. A card that is refused is not warned of.
+    #[tactic(auto, using(opened::proofs::Opening::accepted_readable))]
     fn card(self, rt: HostRuntime, bytes: &[u8]) -> Done {
         let opened = Opened::by_head(bytes);
         match opened.verdict {

@@ -45,6 +45,7 @@ impl Readings {
 }
 
 // The line of a reading, where the buffer has room for any.
+#[tactic(auto, using(listing::proofs::Lengths::length_knot_line))]
 fn put_reading(
     text: &mut [u8],
     at: usize,
