@@ -1,6 +1,6 @@
--- `workbench::files::load_from` ends, and reads no more than the buffer holds. Assumes nothing.
+-- `workbench::files::fill` ends, and reads no more than the buffer holds. Assumes nothing.
 use Rattle.std.proofs.Common.{length, ◌-◌, ◌≤◌}
-use Rattle.workbench.proofs.files.load_from.Given as goal
+use Rattle.workbench.proofs.files.fill.Given as goal
 
 abbrev pub invariant-loop-done : goal.invariant-loop-done
 invariant-loop-done g l = l.done ≤ length l.bytes
