@@ -2,18 +2,18 @@
 #![tactic(auto)]
 
 ghost use Rattle.std.specs.Prelude.{◌≡◌, ◌≤◌, length};
-ghost use Rattle.answer.specs.Answer.{number, place};
+ghost use Rattle.answer.specs.Judge.{verdict_of};
 ghost use Rattle.decimal.specs.Put.{Put};
 ghost use Rattle.card.specs.Answers.{own};
 ghost use Rattle.card_listing.specs.Printed.{printed};
 
-use knots::Kind;
+use answer::Judged;
+use opened::Opened;
 
-// The card's own number and place, and the length of its listing.
-#[derive(Drop)]
+// The card's own verdict, and the length of its listing.
+#[derive(Clone, Copy)]
 pub struct Listed {
-    pub number: u32,
-    pub place: u32,
+    pub verdict: Judged,
     pub length: usize,
 }
 
@@ -21,33 +21,30 @@ pub struct Listed {
 pub fn list_card(card: &[u8], text: &mut [u8]) -> Listed
     requires { 4096 ≤ length text.old }
     ensures put { Put (printed card.now) text.old text.new 0 result.length }
-    ensures number_value { (result.number ≡ number (own card.now)) × (result.place ≡ place (own card.now)) }
+    ensures own { verdict_of result.verdict ≡ own card.now }
 {
-    let mut minutes = [0u16; Kind::MOST];
-    let mut ordinates = [0i16; Kind::MOST];
-    let mut slopes = [0i32; Kind::MOST];
-    let mut curvatures = [0i32; Kind::MOST];
-    let read = card::read(
-        card,
-        &mut minutes,
-        &mut ordinates,
-        &mut slopes,
-        &mut curvatures,
-    );
-    let n = read.knots as usize;
-    let length = listing::list(
-        read.number,
-        read.place,
-        &minutes[..n],
-        &ordinates[..n],
-        &slopes[..n],
-        &curvatures[..n],
-        b"",
-        text,
-    );
-    Listed {
-        number: read.number,
-        place: read.place,
-        length,
+    let opened = Opened::by_head(card);
+    let verdict = opened.verdict;
+    match verdict {
+        Err(refusal) => {
+            let number = refusal.number();
+            let place = refusal.place;
+            let length = listing::list(number, place, &[], &[], &[], &[], &[], text);
+            Listed { verdict, length }
+        }
+        Ok(()) => {
+            let held = opened.card.lent();
+            let length = listing::list(
+                0,
+                0,
+                held.minutes,
+                held.ordinates,
+                held.slopes,
+                held.curvatures,
+                &[],
+                text,
+            );
+            Listed { verdict, length }
+        }
     }
 }

@@ -6,11 +6,13 @@ ghost use Rattle.answer.specs.Judge.{verdict_of};
 ghost use Rattle.rows.specs.Equations.{code};
 ghost use Rattle.ends.specs.Ends.{end_by, unfit, unfit_end, ends};
 
+use answer::{Judged, Reason};
 use knots::Kind;
 use rows::End;
 
 // ---- codes
 
+// A function, since `u16::from(end)` would not say which number of an end is meant.
 pub fn code(end: End) -> u16
     ensures { result ≡ code end }
 {
@@ -22,15 +24,14 @@ pub fn code(end: End) -> u16
 }
 
 // The end that a code asks, with the numbers that come beside it; free for a code that 15 refuses.
+#[tactic(auto, unfolding(crate::specs::Ends::end_by))]
 pub fn end_by(number: u16, slope: f64, curvature: f64) -> End
     ensures { result ≡ end_by number slope curvature }
 {
-    if number == 1 {
-        End::Both(slope, curvature)
-    } else if number == 2 {
-        End::Curvature(curvature)
-    } else {
-        End::Free
+    match number {
+        1 => End::Both(slope, curvature),
+        2 => End::Curvature(curvature),
+        _ => End::Free,
     }
 }
 
@@ -39,15 +40,7 @@ pub fn end_by(number: u16, slope: f64, curvature: f64) -> End
 fn unfit(x: f64) -> bool
     ensures { result ≡ unfit x }
 {
-    if elimination::finite(x) {
-        if Kind::GIVEN < x {
-            true
-        } else {
-            x < -Kind::GIVEN
-        }
-    } else {
-        true
-    }
+    !elimination::finite(x) || Kind::GIVEN < x || x < -Kind::GIVEN
 }
 
 // It looks only at the numbers that the end's kind takes.
@@ -56,19 +49,18 @@ fn unfit_end(end: End) -> bool
 {
     match end {
         End::Free => false,
-        End::Both(slope, curvature) => { if unfit(slope) { true } else { unfit(curvature) } }
+        End::Both(slope, curvature) => unfit(slope) || unfit(curvature),
         End::Curvature(curvature) => unfit(curvature),
     }
 }
 
 // Left, right: at the end knots of n.
-pub fn given_ends(n: usize, left: End, right: End) -> answer::Judged
+#[tactic(auto, using(answer::proofs::Orders::orders), unfolding(crate::specs::Ends::ends))]
+pub fn given_ends(n: usize, left: End, right: End) -> Judged
     requires { (0 < n) × (n ≤ 2 ^ 32) }
     ensures { verdict_of result ≡ ends n left right }
 {
-    if unfit_end(left) {
-        return answer::Judged::Refused(7, 0);
-    }
+    answer::refuse(Reason::UnfitEnd, 0, unfit_end(left))?;
     let last = n - 1;
-    answer::refuse(7, last as u32, unfit_end(right))
+    answer::refuse(Reason::UnfitEnd, last as u32, unfit_end(right))
 }

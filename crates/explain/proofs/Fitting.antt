@@ -7,7 +7,7 @@ use native.Mathlib.Omega.{arith}
 use lib.IntN.{ℤ, pos}
 use lib.ListN.{get_or}
 use Rattle.whole.proofs.Order.{linear}
-use Rattle.curve.specs.Card.{Card, knot, gap}
+use Rattle.curve.specs.Card.{knot, gap}
 use Rattle.knots.specs.Lent.{lent}
 use Rattle.gaps.specs.Limits.{widest, InGap}
 use Rattle.weights.specs.declared.Quantity.TheVariants.{Value}

@@ -1,12 +1,10 @@
 -- What is told beside a refusal: the reason beside 10, zeros beside any other; and no parts beside either.
 -- Assumes nothing.
-use mathlib.Core.Path.{◌≡◌, refl, sym, ◌∙◌, ap, subst}
+use mathlib.Core.Path.{◌≡◌, sym, ◌∙◌, ap}
 use mathlib.Core.Logic.{◌≢◌}
 use mathlib.Core.Bool.{Bool, true, false, cond}
-use mathlib.Core.List.{List}
 use Prim.Native.Nat.{ℕ, ◌<◌, ◌^◌}
 use native.Mathlib.Omega.{arith}
-use lib.ListN.{length}
 use borrow.Author.Tests.{ne_eqb}
 use Rattle.answer.specs.Answer.{refused, given, Verdict, accepted, ◌then◌}
 use Rattle.answer.proofs.Never.{Never, never_refuse}
@@ -16,7 +14,6 @@ use Rattle.curve.specs.Card.{Card, joint}
 use Rattle.curve.specs.Jump.{jumps}
 use Rattle.curve.specs.Reading.{gap_of}
 use Rattle.curve.specs.Steps.{outside}
-use Rattle.explain.specs.declared.Explained.{Explained}
 use Rattle.explain.specs.Explain.{parted, jump_at, because, reason, zeros, told, explained, sizes}
 
 module _ (K : Kind) (c : Card) (minute : ℕ) where

@@ -3,30 +3,34 @@
 // once. The public function asks nothing of its caller.
 #![tactic(auto)]
 
-ghost use Rattle.std.specs.Prelude.{◌≡◌, ℕ, ◌≤◌, ◌<◌, ◌^◌, pos, nat_abs, length};
+ghost use Rattle.std.specs.Prelude.{◌≡◌, ℕ, ◌≤◌, ◌<◌, ◌^◌, pos, length};
 ghost use Rattle.answer.specs.Answer.{accepted};
+ghost use Rattle.answer.specs.Judge.{number_of};
+ghost use Rattle.curve.specs.Curve.{degree};
 ghost use Rattle.curve.specs.Kind as Curve;
 ghost use Rattle.curve.specs.Card.{joint};
 ghost use Rattle.knots.specs.Kinds.{kind_of};
 ghost use Rattle.knots.specs.Lent.{lent};
 ghost use Rattle.jumps.specs.Sides.{order_of};
-ghost use Rattle.lists.specs.Lists.{Checked, InPlace, square_of};
+ghost use Rattle.lists.specs.Lists.{InPlace, square_of};
 ghost use Rattle.decode.specs.Decoded.{decoded};
 ghost use Rattle.opened.specs.Readable.{Readable};
 ghost use Rattle.explain.specs.Explain.{parted, jump_at, because, reason, zeros, explained, explain, sum, sizes};
 
-use answer::Judged;
+use answer::{Reason, Refusal};
 use decode::Card;
 use jumps::Order;
 use knots::Kind;
+use lists::Lists;
 use opened::Opened;
+use parts::Parts;
 use weights::Quantity;
 
 // Of a reading: its gap, by the place of the left knot; the minutes from that knot; the six parts of the
 // value's numerator, those of the right knot marked 1 and its slope's with the minus, and what they are over.
 // Of a card that is refused with 10: the knot; 3 or 4 for the third or the fourth derivative; how far that
 // jumps, and what is allowed, both over the product of the adjoining gaps' cubes or fourth powers, at an end
-// over the one gap's. What is not told is 0.
+// over the one gap's. What is not told is 0. It is what C is told.
 #[repr(C)]
 #[derive(Clone, Copy)]
 pub struct Explained {
@@ -47,14 +51,25 @@ pub struct Explained {
     pub allowance: i64,
 }
 
+impl From<Refusal> for Explained {
+    ghost from_gives = { λ r answer. answer ≡ zeros (number_of r.reason) r.place };
+
+    fn from(refusal: Refusal) -> Explained {
+        Explained {
+            number: refusal.number(),
+            place: refusal.place,
+            ..Explained::none()
+        }
+    }
+}
+
 impl Explained {
-    // Zeros beside number and place.
-    fn refused(number: u32, place: u32) -> Explained
-        ensures { result ≡ zeros number place }
+    fn none() -> Explained
+        ensures { result ≡ zeros 0 0 }
     {
         Explained {
-            number,
-            place,
+            number: 0,
+            place: 0,
             gap: 0,
             minutes: 0,
             ordinate: 0,
@@ -72,68 +87,50 @@ impl Explained {
     }
 
     // The numerator of the exact value: the parts together.
+    #[tactic(auto, using(std::proofs::lemmas::Int::ints), unfolding(crate::specs::Explain::sum, crate::specs::Explain::sizes))]
     pub fn sum(self) -> i64
         requires { sizes self < 2 ^ 63 }
         ensures { result ≡ sum self }
     {
-        let y = self.ordinate;
-        let y1 = self.ordinate1;
-        let m = self.slope;
-        let m1 = self.slope1;
-        let c = self.curvature;
-        let c1 = self.curvature1;
-        y + y1 + m + m1 + c + c1
+        self.ordinate + self.ordinate1 + self.slope + self.slope1 + self.curvature + self.curvature1
     }
 }
 
 // ---- a reading
 
 // At a minute of the gap from place i.
-fn parted(xs: &[u16], ys: &[i16], ms: &[i32], cs: &[i32], i: usize, minute: u16) -> Explained
-    requires checked { Checked xs.now ys.now ms.now cs.now }
-    requires in_place { InPlace xs.now i minute }
-    ensures value { result ≡ parted (lent xs.now ys.now ms.now cs.now 0 0) i minute }
+fn parted(lists: Lists, i: usize, minute: u16) -> Explained
+    requires { InPlace lists.minutes.now i minute }
+    ensures value { result ≡ parted (lent lists.entry.minutes.now lists.entry.ordinates.now lists.entry.slopes.now lists.entry.curvatures.now 0 0) i minute }
     ensures fits { sizes result < 2 ^ 63 }
 {
-    let spell = lists::spell_at(xs, ys, ms, cs, i, minute);
-    let h = spell.h;
-    let t = spell.t;
-    let a = spell.from;
-    let b = spell.to;
-    let parts = parts::Parts::of(Quantity::Value, h, t, a, b);
-    let left = parts.left;
-    let right = parts.right;
+    let spell = lists.spell(i, minute);
+    let parts = Parts::of(Quantity::Value, spell.h, spell.t, spell.from, spell.to);
     Explained {
-        number: 0,
-        place: 0,
         gap: i as u32,
-        minutes: t as u32,
-        ordinate: left.ordinate,
-        ordinate1: right.ordinate,
-        slope: left.slope,
-        slope1: right.slope,
-        curvature: left.curvature,
-        curvature1: right.curvature,
-        denominator: parts::denominator(Quantity::Value, h) as i64,
-        knot: 0,
-        order: 0,
-        jump: 0,
-        allowance: 0,
+        minutes: spell.t as u32,
+        ordinate: parts.left.ordinate,
+        ordinate1: parts.right.ordinate,
+        slope: parts.left.slope,
+        slope1: parts.right.slope,
+        curvature: parts.left.curvature,
+        curvature1: parts.right.curvature,
+        denominator: parts::denominator(Quantity::Value, spell.h) as i64,
+        ..Explained::none()
     }
 }
 
 // 11, or the parts of what is read.
-fn parts_at(xs: &[u16], ys: &[i16], ms: &[i32], cs: &[i32], minute: u16) -> Explained
-    requires checked { Checked xs.now ys.now ms.now cs.now }
-    requires in_bounds { 2 ≤ length xs.now }
-    ensures value { (K : Curve.Kind) (left right : ℕ) → result ≡ explained K accepted (lent xs.now ys.now ms.now cs.now left right) minute }
+fn parts_at(lists: Lists, minute: u16) -> Explained
+    requires { 2 ≤ length lists.minutes.now }
+    ensures value { (K : Curve.Kind) (left right : ℕ) → result ≡ explained K accepted (lent lists.entry.minutes.now lists.entry.ordinates.now lists.entry.slopes.now lists.entry.curvatures.now left right) minute }
     ensures fits { sizes result < 2 ^ 63 }
 {
-    match minutes::outside(xs, minute) {
-        Judged::Refused(number, place) => Explained::refused(number, place),
-        Judged::Accepted => {
-            let gap = minutes::find(xs, minute);
-            parted(xs, ys, ms, cs, gap.first, minute)
+    match minutes::outside(lists.minutes, minute) {
+        Err(refusal) => Explained::from(refusal),
+        Ok(()) => {
+            let gap = minutes::find(lists.minutes, minute);
+            parted(lists, gap.first, minute)
         }
     }
 }
@@ -148,137 +145,87 @@ pub struct Jump {
 }
 
 impl Jump {
-    // As the reason of a refusal at place i; `order` is 3 or 4.
-    fn because(self, i: u32, order: u32) -> Explained
-        ensures { result ≡ because i order self }
+    // As the reason of a refusal at a place.
+    #[tactic(auto, using(std::proofs::lemmas::Int::ints), unfolding(crate::specs::Explain::because))]
+    fn because(self, place: u32, order: Order) -> Explained
+        ensures { result ≡ because place (degree (order_of order)) self }
     {
         Explained {
-            number: 10,
-            place: i,
-            gap: 0,
-            minutes: 0,
-            ordinate: 0,
-            ordinate1: 0,
-            slope: 0,
-            slope1: 0,
-            curvature: 0,
-            curvature1: 0,
-            denominator: 0,
-            knot: i,
-            order,
+            number: Reason::Jump.number(),
+            place,
+            knot: place,
+            order: order.number(),
             jump: self.size,
             allowance: self.allowance,
+            ..Explained::none()
         }
     }
 }
 
-// To either side.
-fn size(jump: i64) -> i64
-    requires { nat_abs jump < 2 ^ 63 }
-    ensures { result ≡ pos (nat_abs jump) }
-{
-    if jump < 0 {
-        return -jump;
-    }
-    jump
-}
-
 // How many g2 or g3 a side's allowance has.
+#[tactic(auto, using(std::proofs::lemmas::Int::ints))]
 fn squares(kind: Kind, order: Order) -> i64
     ensures { (result ≡ pos (square_of kind order)) × (square_of kind order ≤ 2 ^ 8) }
 {
-    let third = kind.squares;
     match order {
-        Order::Third => third as i64,
+        Order::Third => kind.squares as i64,
         Order::Fourth => jumps::CUBES,
     }
 }
 
-fn jump_at(
-    kind: Kind,
-    order: Order,
-    xs: &[u16],
-    ys: &[i16],
-    ms: &[i32],
-    cs: &[i32],
-    i: usize,
-) -> Jump
-    requires checked { Checked xs.now ys.now ms.now cs.now }
-    requires i_in_bounds { i < length xs.now }
-    ensures { (left right : ℕ) → result ≡ jump_at (kind_of kind) (joint (lent xs.now ys.now ms.now cs.now left right) i) (order_of order) }
+fn jump_at(kind: Kind, order: Order, lists: Lists, i: usize) -> Jump
+    requires { i < length lists.minutes.now }
+    ensures { (left right : ℕ) → result ≡ jump_at (kind_of kind) (joint (lent lists.entry.minutes.now lists.entry.ordinates.now lists.entry.slopes.now lists.entry.curvatures.now left right) i) (order_of order) }
 {
-    let before = lists::knot_at(ys, ms, cs, minutes::back(i));
-    let here = lists::knot_at(ys, ms, cs, i);
-    let after = lists::knot_at(ys, ms, cs, minutes::on(xs.len(), i));
-    let q = minutes::left_gap(xs, i) as i64;
-    let h = minutes::right_gap(xs, i) as i64;
+    let before = lists.knot(minutes::back(i));
+    let here = lists.knot(i);
+    let after = lists.knot(minutes::on(lists.minutes.len(), i));
+    let q = minutes::left_gap(lists.minutes, i) as i64;
+    let h = minutes::right_gap(lists.minutes, i) as i64;
     Jump {
-        size: size(jumps::jump(order, q, h, before, here, after)),
+        size: jumps::jump(order, q, h, before, here, after).abs(),
         allowance: jumps::allowance(order, squares(kind, order), q, h),
     }
 }
 
 // The third where it is over; else the fourth.
-fn reason(
-    kind: Kind,
-    left: u16,
-    right: u16,
-    xs: &[u16],
-    ys: &[i16],
-    ms: &[i32],
-    cs: &[i32],
-    i: usize,
-) -> Explained
-    requires checked { Checked xs.now ys.now ms.now cs.now }
-    requires i_in_bounds { i < length xs.now }
-    ensures { result ≡ reason (kind_of kind) (lent xs.now ys.now ms.now cs.now left right) i }
+fn reason(kind: Kind, left: u16, right: u16, lists: Lists, i: usize) -> Explained
+    requires { i < length lists.minutes.now }
+    ensures { result ≡ reason (kind_of kind) (lent lists.entry.minutes.now lists.entry.ordinates.now lists.entry.slopes.now lists.entry.curvatures.now left right) i }
 {
-    let code = lists::code_at(left, right, xs.len(), i);
+    let code = lists::code_at(left, right, lists.minutes.len(), i);
     if lists::asks(kind, Order::Third, code) {
-        let third = jump_at(kind, Order::Third, xs, ys, ms, cs, i);
+        let third = jump_at(kind, Order::Third, lists, i);
         if third.allowance < third.size {
-            return third.because(i as u32, 3);
+            return third.because(i as u32, Order::Third);
         }
     }
-    let fourth = jump_at(kind, Order::Fourth, xs, ys, ms, cs, i);
-    fourth.because(i as u32, 4)
+    let fourth = jump_at(kind, Order::Fourth, lists, i);
+    fourth.because(i as u32, Order::Fourth)
 }
 
 // ---- off a card
 
 // Of a sound card.
-fn off(card: Card, minute: u16) -> Explained
-    requires { Readable card }
-    ensures value { (K : Curve.Kind) → result ≡ explained K accepted (decoded card) minute }
+fn off(card: &Card, minute: u16) -> Explained
+    requires { Readable card.now }
+    ensures value { (K : Curve.Kind) → result ≡ explained K accepted (decoded card.now) minute }
     ensures fits { sizes result < 2 ^ 63 }
 {
-    let n = card.knots;
-    let xs = card.minutes;
-    let ys = card.ordinates;
-    let ms = card.slopes;
-    let cs = card.curvatures;
-    parts_at(&xs[..n], &ys[..n], &ms[..n], &cs[..n], minute)
+    parts_at(opened::lists(card), minute)
 }
 
 // Of one that is refused with 10 at a place.
-fn why(kind: Kind, card: Card, place: u32) -> Explained
-    requires readable { Readable card }
-    requires place_lt_knots { place < card.knots }
-    ensures { result ≡ reason (kind_of kind) (decoded card) place }
+fn why(kind: Kind, card: &Card, place: u32) -> Explained
+    requires readable { Readable card.now }
+    requires place_lt_knots { place < card.now.knots }
+    ensures { result ≡ reason (kind_of kind) (decoded card.now) place }
 {
-    let n = card.knots;
-    let xs = card.minutes;
-    let ys = card.ordinates;
-    let ms = card.slopes;
-    let cs = card.curvatures;
     reason(
         kind,
         card.left,
         card.right,
-        &xs[..n],
-        &ys[..n],
-        &ms[..n],
-        &cs[..n],
+        opened::lists(card),
         place as usize,
     )
 }
@@ -289,16 +236,11 @@ pub fn explain(card: &[u8], minute: u16) -> Explained
     ensures fits { sizes result < 2 ^ 63 }
 {
     let opened = Opened::by_head(card);
-    let verdict = opened.verdict;
-    let kind = opened.kind;
-    let held = opened.card;
-    match verdict {
-        Judged::Refused(number, place) => {
-            if number == 10 {
-                return why(kind, held, place);
-            }
-            Explained::refused(number, place)
-        }
-        Judged::Accepted => off(held, minute),
+    match opened.verdict {
+        Ok(()) => off(&opened.card, minute),
+        Err(refusal) => match refusal.reason {
+            Reason::Jump => why(opened.kind, &opened.card, refusal.place),
+            _ => Explained::from(refusal),
+        },
     }
 }

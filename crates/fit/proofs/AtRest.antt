@@ -19,14 +19,14 @@ use Rattle.rows.specs.declared.End.{End}
 use Rattle.rows.specs.Floats.{◌⊕◌, ◌⊖◌, ◌⊗◌}
 use Rattle.rows.specs.Equations as Equations
 use Rattle.elimination.specs.declared.State.{State}
-use Rattle.elimination.specs.declared.Step.{Step}
+use Rattle.std.specs.Prelude.{Option}
 use Rattle.elimination.specs.Elimination.{system, zero_pair, backward, zero_state}
 use Rattle.elimination.specs.Refusal.{both_finite}
 use Rattle.elimination.specs.Refusal as Refusal
 use Rattle.passes.specs.Sheet.{most, end_of, knot_between, is_last, right_gap, left_gap, knot_at}
 use Rattle.passes.specs.Forward.{Run, going, stuck, landed, left_by, run_to, state_at}
 use Rattle.passes.specs.Back.{Back, back, stopped, pair_of, turned, settled, retreat, back_to, no_pair, pair_at}
-use Rattle.passes.specs.Passes.{returned, answered, back_from, passes}
+use Rattle.passes.specs.Passes.{pairs_in, returned, answered, back_from, passes}
 use Rattle.ends.specs.Ends.{ends}
 use Rattle.numbers.specs.Numbers.{slope_at, curvature_at}
 use Rattle.fit.specs.Fit.{default_left, default_right, solved, card_of, fit}
@@ -90,21 +90,21 @@ first_of f e (suc n) = get_d_listed f (pos 0) (suc n) 0 (omega arith) ∙ e
 -- ---- of a sheet
 
 module _ (xs : List ℕ) (ys : List ℤ) (right : End) where
-  abbrev step : State → ℕ → Step
+  abbrev step : State → ℕ → Option State
   step = knot_at xs ys default_left right
 
   starts : Resting (state_at step 0)
   unfolding run_to knot_at knot_between end_of left_gap
   starts = resting (right_gap xs ys 0) (is_last (length xs) 0)
 
-  solved_rests : Noughts (get_or (solved xs ys default_left right).pairs 0 no_pair)
+  solved_rests : Noughts (get_or (pairs_in (solved xs ys default_left right)) 0 no_pair)
   unfolding solved passes back_from
   solved_rests = go (run_to step (length xs)) (back_to backward (state_at step) (length xs) (length xs))
     where
       pairs : ℕ → Pair
       pairs = pair_at backward (state_at step) (length xs)
 
-      go : (r : Run) (b : Back) → Noughts (get_or (answered r (returned b (listed pairs most))).pairs 0 no_pair)
+      go : (r : Run) (b : Back) → Noughts (get_or (pairs_in (answered r (returned b (listed pairs most)))) 0 no_pair)
       go (stuck i) b = none
       go (going x) (stopped k) = none
       go (going x) (back v) = rw (get_d_listed pairs no_pair most 0 (lit< tt)) (first_rests (state_at step) starts (length xs))
@@ -113,7 +113,7 @@ module _ (xs : List ℕ) (ys : List ℤ) (right : End) where
   pub card_rests : ((knot (card_of xs ys default_left right) 0).m ≡ pos 0) × ((knot (card_of xs ys default_left right) 0).M ≡ pos 0)
   unfolding card_of knot
   card_rests =
-      let pairs = (solved xs ys default_left right).pairs in
+      let pairs = pairs_in (solved xs ys default_left right) in
       (first_of (slope_at pairs) (units_nought _ solved_rests.0) (length xs), first_of (curvature_at pairs) (units_nought _ solved_rests.1) (length xs))
 
 -- of an accepted fit without ends

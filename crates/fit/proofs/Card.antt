@@ -16,6 +16,7 @@ use Rattle.curve.proofs.Accepted.{same_lengths}
 use Rattle.rows.specs.declared.End.{End}
 use Rattle.front.proofs.Listed.{length_listed}
 use Rattle.rows.specs.Equations.{code}
+use Rattle.passes.specs.Passes.{pairs_in}
 use Rattle.ends.specs.Ends.{end_by}
 use Rattle.ends.proofs.Codes.{code_known, code_asked}
 use Rattle.numbers.specs.Numbers.{slope_at, curvature_at}
@@ -50,7 +51,7 @@ module _ (xs : List ℕ) (ys : List ℤ) (left right : End) (ms Ms : ℕ) (named
   pub places_written : (length c.slopes ≡ length xs) × (length c.curvatures ≡ length xs)
   unfolding card_of
   places_written =
-      let pairs = (solved xs ys left right).pairs in
+      let pairs = pairs_in (solved xs ys left right) in
       (ap (λ d. length d.slopes) its_card ∙ length_listed (slope_at pairs) (length xs), ap (λ d. length d.curvatures) its_card ∙ length_listed (curvature_at pairs) (length xs))
 
   named_accepts : named ≡ accepted
@@ -61,7 +62,7 @@ module _ (xs : List ℕ) (ys : List ℤ) (left right : End) (ms Ms : ℕ) (named
   unfolding fit_of fit_order verdict sound card_of knots
   own_verdict =
       let s = shared _ _ _ _ _ _ _ (first_accepts _ _ e) in
-      let pairs = (solved xs ys left right).pairs in
+      let pairs = pairs_in (solved xs ys left right) in
       let n = length xs in
       let lent = ap₂ (lengths n (length ys)) (length_listed (slope_at pairs) n ∙ sym places_lent.0) (length_listed (curvature_at pairs) n ∙ sym places_lent.1) in
       both_accept (lent ∙ s.0) (both_accept s.1 (both_accept (codes_known left right) (both_accept s.3 s.4)))

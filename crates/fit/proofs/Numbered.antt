@@ -1,13 +1,10 @@
 -- No step of the fit's order refuses with the number 0, so that a fit answers 0 exactly where it accepts.
 -- Assumes nothing.
-use Prim.Native.Nat.{ℕ, zero, suc}
-use mathlib.Core.Path.{◌≡◌}
+use Prim.Native.Nat.{ℕ}
 use mathlib.Core.List.{List}
-use native.Mathlib.Omega.{arith}
 use lib.Dec.{lit<}
 use lib.IntN.{ℤ}
 use Rattle.answer.specs.Answer.{Verdict}
-use Rattle.answer.specs.Judge.{numbered}
 use Rattle.answer.proofs.Never.{Never, given_never, never_then, never_each, numbered_refuse}
 use Rattle.curve.specs.Kind.{Kind, quintic}
 use Rattle.curve.specs.Card.{Card, knots}
@@ -16,6 +13,15 @@ use Rattle.curve.specs.Orders.{numbers_sound, fit_order}
 use Rattle.rows.specs.declared.End.{End}
 use Rattle.ends.specs.Ends.{ends}
 use Rattle.fit.specs.Fit.{solved, eliminated, card_of, fit_of}
+use Rattle.std.specs.Prelude.{Option, length, true}
+use Rattle.answer.specs.Answer.{refuse}
+use Rattle.rows.specs.declared.Pair.{Pair}
+use Rattle.elimination.specs.declared.State.{State}
+use Rattle.elimination.specs.Elimination.{backward}
+use Rattle.passes.specs.Sheet.{knot_at}
+use Rattle.passes.specs.Forward.{Run, going, stuck, run_to, state_at}
+use Rattle.passes.specs.Back.{Back, back, stopped, back_to}
+use Rattle.passes.specs.Passes.{refused, verdict_in, returned, answered, back_from, passes}
 
 pub lengths_numbered : (n ys ms Ms : ℕ) → Never 0 (lengths n ys ms Ms)
 unfolding lengths
@@ -39,16 +45,23 @@ module _ (K : Kind) where
   numbers_numbered c =
       never_then (never_each 0 _ 0 (knots c) (λ i l. numbered_refuse 9 i _ (lit< tt))) (never_each 0 _ 0 (knots c) (λ i l. numbered_refuse 10 i _ (lit< tt)))
 
--- 8 comes with its number, or with none
-pub eight_numbered : (n p : ℕ) → Never 0 (numbered n p)
-eight_numbered zero p = given_never
-eight_numbered (suc n) p = record { never = λ q e. let z : suc n ≡ 0 = cc in omega arith }
+-- 8 comes with its number
+pub eight_numbered : (step : State → ℕ → Option State) (turn : State → Pair → Pair) (n : ℕ) → Never 0 (verdict_in (passes step turn n))
+unfolding passes back_from refuse
+eight_numbered step turn n = go (run_to step n) (back_to turn (state_at step) n n) _
+  where
+    stuck_numbered : (i : ℕ) → Never 0 (verdict_in (refused i))
+    stuck_numbered i = numbered_refuse 8 i true (lit< tt)
+
+    go : (r : Run) (b : Back) (pairs : List Pair) → Never 0 (verdict_in (answered r (returned b pairs)))
+    go (stuck i) b pairs = stuck_numbered i
+    go (going x) (stopped k) pairs = stuck_numbered k
+    go (going x) (back v) pairs = given_never
 
 module _ (xs : List ℕ) (ys : List ℤ) (left right : End) (ms Ms : ℕ) {named : Verdict} where
   pub fit_numbered : Never 0 named → Never 0 (fit_of xs ys left right ms Ms named)
-  unfolding fit_of fit_order ends eliminated
+  unfolding fit_of fit_order ends eliminated solved
   fit_numbered n =
-      let r = solved xs ys left right in
       let c = card_of xs ys left right in
       never_then
       (never_then (lengths_numbered _ _ _ _)
@@ -56,5 +69,5 @@ module _ (xs : List ℕ) (ys : List ℤ) (left right : End) (ms Ms : ℕ) {named
       (never_then n
       (never_then (never_each 0 _ 0 (knots c) (λ i l. stands_numbered quintic c.minutes c.ordinates i))
       (never_then (never_then (numbered_refuse 7 0 _ (lit< tt)) (numbered_refuse 7 _ _ (lit< tt)))
-      (never_then (eight_numbered r.number r.place) (numbers_numbered quintic c)))))))
+      (never_then (eight_numbered (knot_at xs ys left right) backward (length xs)) (numbers_numbered quintic c)))))))
       (given_never {a = c})

@@ -7,7 +7,7 @@ use borrow.Author.Tests.{ltb-false}
 use lib.IntN.{ℤ}
 use lib.ListN.{length}
 use Rattle.answer.specs.Answer.{Answer, refused, given, Verdict, accepted, ◌then◌, each}
-use Rattle.answer.proofs.Steps.{first_accepts, next_accepts, refuse_accepts}
+use Rattle.answer.proofs.Steps.{then_assoc, first_accepts, next_accepts, refuse_accepts}
 use Rattle.curve.specs.Kind.{quintic}
 use Rattle.curve.specs.Card.{knots}
 use Rattle.curve.specs.Steps.{lengths, counted, stands}
@@ -16,7 +16,9 @@ use Rattle.curve.proofs.Accepted.{same_lengths}
 use Rattle.rows.specs.declared.End.{End}
 use Rattle.passes.specs.Sheet.{most}
 use Rattle.ends.specs.Ends.{ends}
-use Rattle.fit.specs.Fit.{tested, standing, eliminated, card_of, fit_of}
+use Rattle.fit.specs.Fit.{tested, standing, solved, eliminated, card_of, fit_of}
+use Rattle.passes.specs.declared.Job.TheVariants.{Ends}
+use Rattle.fit.specs.Jobs.{solved_by, worked}
 use Rattle.fit.specs.Promise.{Alike}
 
 pub regroup : {A : Type 0} (a b c d e f g : Verdict) (h : Answer A) → ((a then b then c then d then e then f then g) then h) ≡ ((a then b then c) then (d then e) then f then g then h)
@@ -38,6 +40,11 @@ module _ (xs : List ℕ) (ys : List ℤ) (left right : End) where
       sym
       (regroup (lengths (length xs) (length ys) ms Ms) (counted quintic (length xs)) named (each (stands quintic xs ys) 0 (length xs)) (ends (length xs) left right)
       (eliminated xs ys left right) (numbers_sound quintic (card_of xs ys left right)) (given (card_of xs ys left right)))
+
+  -- the steps that an accepted sheet goes through, one after the other
+  pub by_steps : (ms : List ℤ) → (each (stands quintic xs ys) 0 (length xs) then ends (length xs) left right then worked xs ys ms (Ends left right)) ≡ (standing xs ys left right then eliminated xs ys left right then tested quintic (card_of xs ys left right))
+  unfolding standing eliminated card_of solved worked solved_by
+  by_steps ms = sym (then_assoc _ _ _)
 
   pub stood_first : standing xs ys left right ≡ accepted → each (stands quintic xs ys) 0 (length xs) ≡ accepted
   unfolding standing

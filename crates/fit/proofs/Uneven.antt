@@ -16,7 +16,7 @@ use Rattle.elimination.specs.Refusal as Refusal
 use Rattle.passes.specs.Sheet.{end_of, knot_between, right_gap, left_gap, knot_at}
 use Rattle.passes.specs.Forward.{run_to}
 use Rattle.passes.specs.Back.{turned, back_to}
-use Rattle.passes.specs.Passes.{back_from, passes}
+use Rattle.passes.specs.Passes.{pairs_in, back_from, passes}
 use Rattle.fit.specs.Fit.{solved}
 
 abbrev bits : ℕ → Float
@@ -30,7 +30,7 @@ wanted =
     ∷ pair (bits 0x4062_ec91_be50_a523) (bits 0x4006_7804_d15b_976b)
     ∷ []
 
-pub by_their_bits : take 4 (solved (0 ∷ 20 ∷ 35 ∷ 69 ∷ []) (pos 2200 ∷ pos 1400 ∷ pos 1800 ∷ pos 5300 ∷ []) Free Free).pairs ≡ wanted
+pub by_their_bits : take 4 (pairs_in (solved (0 ∷ 20 ∷ 35 ∷ 69 ∷ []) (pos 2200 ∷ pos 1400 ∷ pos 1800 ∷ pos 5300 ∷ []) Free Free)) ≡ wanted
 unfolding add sub mul div neg of_bits of_int ne Equations.gap Equations.no_gap Equations.equations system Refusal.solved Refusal.eliminated
     end_of knot_between right_gap left_gap knot_at run_to turned back_to back_from passes solved
 by_their_bits = refl

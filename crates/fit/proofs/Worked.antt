@@ -1,56 +1,77 @@
--- From the two passes and the numbers worked out of their pairs to the fit's definition. Assumes nothing.
-use Prim.Native.Nat.{ℕ}
+-- From the two passes and the numbers worked out of their pairs to a fit's definition, of either job. Assumes nothing.
+use Prim.Native.Nat.{ℕ, ◌<◌, ◌≤◌}
 use native.Mathlib.Omega.{arith}
 use mathlib.Core.Path.{◌≡◌, sym, ap, ap₂, ◌∙◌}
+use mathlib.Core.Bool.{true}
 use mathlib.Core.List.{List}
 use lib.Dec.{lit<}
 use lib.IntN.{ℤ}
-use lib.ListN.{length}
+use lib.ListN.{length, get_or, take}
+use lib.Seq.{length-take-le, get_or-take}
+use Rattle.std.specs.Prelude.{Ok, Err}
+use Rattle.std.proofs.lemmas.List.{length-take}
 use Rattle.answer.specs.Answer.{Answer, refused, ◌then◌}
-use Rattle.answer.specs.Judge.{numbered}
-use Rattle.answer.proofs.Loops.{is_refused}
-use Rattle.curve.specs.Kind.{quintic}
+use Rattle.answer.specs.Judge.{number_of}
+use Rattle.answer.specs.declared.Refusal.{Refusal}
+use Rattle.curve.specs.Kind.{quintic, sloped}
 use Rattle.curve.specs.Card.{Card}
 use Rattle.front.specs.Front.{listed}
 use Rattle.front.proofs.Filled.{front_over}
-use Rattle.knots.specs.Lent.{lent}
-use Rattle.rows.specs.declared.End.{End}
-use Rattle.elimination.specs.Elimination.{backward}
-use Rattle.passes.specs.declared.Solved.{Solved}
-use Rattle.passes.specs.Sheet.{knot_at}
-use Rattle.passes.specs.Passes.{passes}
+use Rattle.front.proofs.Listed.{listed_same}
+use Rattle.rows.specs.declared.Pair.{Pair}
 use Rattle.rows.specs.Equations.{code}
+use Rattle.elimination.specs.Refusal.{both_finite}
+use Rattle.passes.specs.declared.Job.{Job}
+use Rattle.passes.specs.declared.Job.TheVariants.{Ends, Slopes}
+use Rattle.passes.specs.Sheet.{most}
+use Rattle.passes.specs.Jobs.{step_by, turn_by}
+use Rattle.passes.specs.Back.{no_pair}
+use Rattle.passes.specs.Passes.{Solved, pairs_in, verdict_in, passes}
+use Rattle.passes.proofs.Answers.{pairs_finite}
+use Rattle.units.specs.Units.{units_of, held}
 use Rattle.numbers.specs.declared.Numbers.{Numbers}
 use Rattle.numbers.specs.Numbers.{slope_at, curvature_at, scaled}
-use Rattle.fit.specs.Fit.{tested, solved, eliminated, card_of}
-use Rattle.fit.specs.Promise.{card_with}
-use Rattle.fit.proofs.Held.{both_held}
+use Rattle.fit.specs.Fit.{tested}
+use Rattle.fit.specs.Jobs.{kind_by, solved_by, card_by, card_with, worked}
+use Rattle.fit.proofs.Held.{both_held, curvatures_held}
 
--- 8 as the passes meet it, before what follows it
-module _ {p q : Solved} (is : p ≡ q) (b : Answer Card) where
-  verdict_is : numbered p.number p.place ≡ numbered q.number q.place
-  verdict_is = ap (λ (r : Solved). numbered r.number r.place) is
+module _ (xs : List ℕ) (ys ms : List ℤ) (job : Job) where
+  -- 9, 10, of these slopes and curvatures
+  abbrev tested_by : List ℤ → List ℤ → Answer Card
+  tested_by slopes curvatures = tested (kind_by job) (card_by xs ys ms job slopes curvatures)
 
-  pub met : (p.number ≡ 0 → ⊥) → refused p.number p.place ≡ (numbered q.number q.place then b)
-  unfolding ◌then◌
-  met h = sym (ap (λ v. v then b) (sym verdict_is ∙ is_refused p.number p.place (omega (arith, h))))
+  -- 8, and then of the pairs
+  abbrev tested_of : Solved → Answer Card
+  tested_of s = verdict_in s then tested_by (listed (slope_at (pairs_in s)) (length xs)) (listed (curvature_at (pairs_in s)) (length xs))
 
-  pub not_met : p.number ≡ 0 → b ≡ (numbered q.number q.place then b)
-  unfolding ◌then◌
-  not_met z = sym (ap (λ v. v then b) (sym verdict_is ∙ ap (λ k. numbered k p.place) z))
+-- numbers that are held at the farthest answer as those of the definition
+held_by : (xs : List ℕ) (ys ms : List ℤ) (job : Job) (P Q : ℕ → ℤ)
+    → tested_by xs ys ms job (listed (λ k. held (P k)) (length xs)) (listed (λ k. held (Q k)) (length xs)) ≡ tested_by xs ys ms job (listed P (length xs)) (listed Q (length xs))
+unfolding quintic sloped
+held_by xs ys ms (Ends left right) P Q = both_held quintic (lit< tt) (λ gap. lit< tt) xs ys (code left) (code right) P Q
+held_by xs ys ms Slopes P Q = curvatures_held sloped (lit< tt) (λ gap. lit< tt) xs ys 0 0 ms Q
 
-module _ (xs : List ℕ) (ys : List ℤ) (left right : End) {p : Solved} (is : p ≡ passes (knot_at xs ys left right) backward (length xs)) where
-  pub refused_8 : (p.number ≡ 0 → ⊥) → refused p.number p.place ≡ (eliminated xs ys left right then tested quintic (card_of xs ys left right))
-  unfolding eliminated solved
-  refused_8 h = met is _ h
+module _ (xs : List ℕ) (ys ms : List ℤ) (job : Job) {p : Solved} (is : p ≡ passes (step_by xs ys ms job) (turn_by job) (length xs)) where
+  pub refused_8 : {e : Refusal} → p ≡ Err e → refused (number_of e.reason) e.place ≡ worked xs ys ms job
+  unfolding worked solved_by ◌then◌
+  refused_8 z = sym (ap (tested_of xs ys ms job) (sym is ∙ z))
 
-  -- the numbers that were worked out, held at the farthest, answer as those of the definition
-  pub worked_out : {x : Numbers} → p.number ≡ 0 → x ≡ scaled p.pairs (length xs)
-      → tested quintic (card_with xs ys left right x) ≡ (eliminated xs ys left right then tested quintic (card_of xs ys left right))
-  unfolding eliminated card_of solved quintic
-  worked_out z e =
-      ap (λ numbers. tested quintic (card_with xs ys left right numbers)) e
-      ∙ ap₂ (λ ms Ms. tested quintic (lent xs ys ms Ms (code left) (code right))) (front_over _ (length xs) _) (front_over _ (length xs) _)
-      ∙ both_held quintic (lit< tt) (λ gap. lit< tt) xs ys (code left) (code right) (slope_at p.pairs) (curvature_at p.pairs)
-      ∙ ap (λ (q : Solved). tested quintic (lent xs ys (listed (slope_at q.pairs) (length xs)) (listed (curvature_at q.pairs) (length xs)) (code left) (code right))) is
-      ∙ not_met is _ z
+  module _ {pairs : List Pair} (z : p ≡ Ok pairs) where
+    pub front_finite : length xs ≤ most → (k : ℕ) → k < length (take (length xs) pairs) → both_finite (get_or (take (length xs) pairs) k no_pair) ≡ true
+    front_finite few k h =
+        ap both_finite (get_or-take (length xs) pairs k no_pair (omega (arith, length-take (length xs) pairs)))
+        ∙ ap (λ s. both_finite (get_or (pairs_in s) k no_pair)) (sym z ∙ is)
+        ∙ pairs_finite (step_by xs ys ms job) (turn_by job) (length xs) k (omega (arith, length-take (length xs) pairs))
+
+    -- the numbers that were worked out of the pairs
+    pub worked_out : {x : Numbers} → length xs ≤ length pairs → x ≡ scaled (take (length xs) pairs) (length (take (length xs) pairs)) → tested (kind_by job) (card_with xs ys ms job x) ≡ worked xs ys ms job
+    unfolding worked solved_by ◌then◌
+    worked_out room e =
+        let n = length xs in
+        let front = take n pairs in
+        let same : (k : ℕ) → k < n → get_or front k no_pair ≡ get_or pairs k no_pair = λ k h. get_or-take n pairs k no_pair h in
+        ap (λ x. tested (kind_by job) (card_with xs ys ms job x)) (e ∙ ap (scaled front) (length-take-le n pairs room))
+        ∙ ap₂ (tested_by xs ys ms job) (front_over _ n _) (front_over _ n _)
+        ∙ held_by xs ys ms job (slope_at front) (curvature_at front)
+        ∙ ap₂ (tested_by xs ys ms job) (listed_same _ _ n (λ k h. ap (λ v. units_of v.s) (same k h))) (listed_same _ _ n (λ k h. ap (λ v. units_of v.c) (same k h)))
+        ∙ sym (ap (tested_of xs ys ms job) (sym is ∙ z))

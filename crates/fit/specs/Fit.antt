@@ -2,7 +2,6 @@
 -- "Numbers of refusal". Assumes nothing.
 use Rattle.std.specs.Prelude.{ℕ, List, length, ℤ, Float}
 use Rattle.answer.specs.Answer.{Answer, given, Verdict, accepted, ◌then◌, each}
-use Rattle.answer.specs.Judge.{numbered}
 use Rattle.curve.specs.Kind.{Kind, quintic}
 use Rattle.curve.specs.Card.{Card}
 use Rattle.curve.specs.Steps.{codes, stands}
@@ -13,10 +12,9 @@ use Rattle.rows.specs.declared.End.TheVariants.{Free, Both}
 use Rattle.rows.specs.Floats.{f0}
 use Rattle.rows.specs.Equations.{code}
 use Rattle.elimination.specs.Elimination.{backward}
-use Rattle.passes.specs.declared.Solved.{Solved}
 use Rattle.passes.specs.Sheet.{knot_at}
 use Rattle.front.specs.Front.{listed}
-use Rattle.passes.specs.Passes.{passes}
+use Rattle.passes.specs.Passes.{Solved, pairs_in, verdict_in, passes}
 use Rattle.ends.specs.Ends.{end_by, ends}
 use Rattle.numbers.specs.Numbers.{slope_at, curvature_at}
 
@@ -35,11 +33,11 @@ module _ (xs : List ℕ) (ys : List ℤ) (left right : End) where
 
   -- 8
   unfoldable pub eliminated : Verdict
-  eliminated = numbered solved.number solved.place
+  eliminated = verdict_in solved
 
   -- the card that it gives
   unfoldable pub card_of : Card
-  card_of = lent xs ys (listed (slope_at solved.pairs) (length xs)) (listed (curvature_at solved.pairs) (length xs)) (code left) (code right)
+  card_of = lent xs ys (listed (slope_at (pairs_in solved)) (length xs)) (listed (curvature_at (pairs_in solved)) (length xs)) (code left) (code right)
 
   -- into lists of ms and Ms places; `named` is 15
   unfoldable pub fit_of : (ms Ms : ℕ) → (named : Verdict) → Answer Card

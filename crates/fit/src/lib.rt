@@ -10,9 +10,11 @@ ghost use Rattle.curve.specs.Steps.{stands};
 ghost use Rattle.curve.specs.Orders.{numbers_sound};
 ghost use Rattle.passes.specs.Sheet.{most};
 ghost use Rattle.fit.specs.Fit.{standing, eliminated, card_of, tested, fit_of, fit_between, fit_codes, fit};
-ghost use Rattle.fit.specs.Promise.{Fits, Alike, card_with};
+ghost use Rattle.fit.specs.Jobs.{kind_by, card_with, worked, handed};
+ghost use Rattle.fit.specs.Promise.{fitted_of, Fits, Alike};
 
-use answer::Judged;
+use answer::{Judged, Refusal};
+use knots::{Kind, Lent};
 use numbers::Numbers;
 use passes::Job;
 use rows::End;
@@ -22,7 +24,7 @@ pub const DEFAULT_LEFT: End = End::Both(0.0, 0.0);
 
 pub const DEFAULT_RIGHT: End = End::Free;
 
-// Number and place; zeros where it is accepted.
+// Number and place; zeros where it is accepted. C receives it so.
 #[repr(C)]
 #[derive(Drop)]
 pub struct Fitted {
@@ -30,113 +32,103 @@ pub struct Fitted {
     pub place: u32,
 }
 
-// 9; 10.
-fn judge(minutes: &[u16], ordinates: &[i16], left: End, right: End, numbers: Numbers) -> Judged
-    requires minutes_len_bound { (length minutes.now ≤ most) × (length ordinates.now ≡ length minutes.now) }
-    requires minutes_value { each (stands quintic minutes.now ordinates.now) 0 (length minutes.now) ≡ accepted }
-    ensures { verdict_of result ≡ numbers_sound quintic (card_with minutes.now ordinates.now left right numbers) }
-{
-    let n = minutes.len();
-    let m = numbers.slopes;
-    let c = numbers.curvatures;
-    let kind = knots::Kind::quintic();
-    lists::numbers_sound(
-        kind,
-        ends::code(left),
-        ends::code(right),
-        minutes,
-        ordinates,
-        &m[..n],
-        &c[..n],
-    )
-}
+#[tactic(auto, unfolding(answer::specs::Answer::number, answer::specs::Answer::place))]
+impl From<Judged> for Fitted {
+    ghost from_gives = { λ judged fitted. fitted ≡ fitted_of judged };
 
-// 9; 10, and then to the lent lists.
-fn settle(
-    minutes: &[u16],
-    ordinates: &[i16],
-    slopes: &mut [i32],
-    curvatures: &mut [i32],
-    left: End,
-    right: End,
-    numbers: Numbers,
-) -> Fitted
-    requires alike { Alike minutes.now ordinates.now slopes.old curvatures.old }
-    requires minutes_value { each (stands quintic minutes.now ordinates.now) 0 (length minutes.now) ≡ accepted }
-    ensures { Fits
-        (tested quintic (card_with minutes.now ordinates.now left right numbers))
-        slopes.old curvatures.old slopes.new curvatures.new result }
-{
-    let sound = judge(minutes, ordinates, left, right, numbers);
-    match sound {
-        Judged::Accepted => {
-            let m = numbers.slopes;
-            let c = numbers.curvatures;
-            numbers::write(slopes, m);
-            numbers::write(curvatures, c);
-            Fitted {
+    fn from(judged: Judged) -> Fitted {
+        match judged {
+            Ok(()) => Fitted {
                 number: 0,
                 place: 0,
-            }
+            },
+            Err(refusal) => Fitted {
+                number: refusal.number(),
+                place: refusal.place,
+            },
         }
-        Judged::Refused(number, place) => Fitted { number, place },
     }
 }
 
-// 8; 9; 10.
-fn solve(
-    minutes: &[u16],
-    ordinates: &[i16],
-    slopes: &mut [i32],
-    curvatures: &mut [i32],
-    left: End,
-    right: End,
-) -> Fitted
-    requires alike { Alike minutes.now ordinates.now slopes.old curvatures.old }
-    requires minutes_value { each (stands quintic minutes.now ordinates.now) 0 (length minutes.now) ≡ accepted }
-    ensures { Fits
-        (eliminated minutes.now ordinates.now left right then tested quintic (card_of minutes.now ordinates.now left right))
-        slopes.old curvatures.old slopes.new curvatures.new result }
+// ---- either job
+
+// 9; 10.
+fn judge(minutes: &[u16], ordinates: &[i16], slopes: &[i32], job: Job, numbers: &Numbers) -> Judged
+    requires minutes_len_bound { (length minutes.now ≤ most) × (length ordinates.now ≡ length minutes.now) × (length slopes.now ≡ length minutes.now) }
+    requires stand { each (stands quintic minutes.now ordinates.now) 0 (length minutes.now) ≡ accepted }
+    ensures { verdict_of result ≡ numbers_sound (kind_by job) (card_with minutes.now ordinates.now slopes.now job numbers.now) }
 {
-    let solved = passes::pairs_of(minutes, ordinates, slopes, Job::Ends(left, right));
-    if solved.number == 0 {
-        let pairs = solved.pairs;
-        let numbers = numbers::scale(pairs, minutes.len());
-        settle(minutes, ordinates, slopes, curvatures, left, right, numbers)
-    } else {
-        Fitted {
-            number: solved.number,
-            place: solved.place,
-        }
+    let n = minutes.len();
+    let curvatures = &numbers.curvatures[..n];
+    match job {
+        Job::Ends(left, right) => lists::numbers_sound(
+            Kind::quintic(),
+            Lent {
+                minutes,
+                ordinates,
+                slopes: &numbers.slopes[..n],
+                curvatures,
+                left: ends::code(left),
+                right: ends::code(right),
+            },
+        ),
+        Job::Slopes => lists::numbers_sound(
+            Kind::sloped(),
+            Lent {
+                minutes,
+                ordinates,
+                slopes,
+                curvatures,
+                left: 0,
+                right: 0,
+            },
+        ),
     }
 }
 
-// Per knot 4, 5, 6; 7; 8; 9; 10.
-fn stand_and_solve(
+// 8; 9; 10: what the knots get, beside the lent lists.
+pub fn work_out(
+    minutes: &[u16],
+    ordinates: &[i16],
+    slopes: &[i32],
+    job: Job,
+) -> Result<Numbers, Refusal>
+    requires minutes_len_bound { (length minutes.now ≤ most) × (length ordinates.now ≡ length minutes.now) × (length slopes.now ≡ length minutes.now) }
+    requires stand { each (stands quintic minutes.now ordinates.now) 0 (length minutes.now) ≡ accepted }
+    ensures { handed minutes.now ordinates.now slopes.now job result ≡ worked minutes.now ordinates.now slopes.now job }
+{
+    let pairs = passes::pairs_of(minutes, ordinates, slopes, job)?;
+    let numbers = numbers::scale(&pairs[..minutes.len()]);
+    judge(minutes, ordinates, slopes, job, &numbers)?;
+    Ok(numbers)
+}
+
+// ---- between ends
+
+// Per knot 4, 5, 6; 7; 8; 9; 10, and then to the lent lists.
+fn fit_alike(
     minutes: &[u16],
     ordinates: &[i16],
     slopes: &mut [i32],
     curvatures: &mut [i32],
     left: End,
     right: End,
-) -> Fitted
+) -> Judged
     requires { Alike minutes.now ordinates.now slopes.old curvatures.old }
     ensures { Fits
         (standing minutes.now ordinates.now left right then eliminated minutes.now ordinates.now left right then tested quintic (card_of minutes.now ordinates.now left right))
-        slopes.old curvatures.old slopes.new curvatures.new result }
+        slopes.old curvatures.old slopes.new curvatures.new (fitted_of result) }
 {
-    let stood = answer::first(
-        knots::stand(minutes, ordinates),
-        ends::given_ends(minutes.len(), left, right),
-    );
-    match stood {
-        Judged::Accepted => solve(minutes, ordinates, slopes, curvatures, left, right),
-        Judged::Refused(number, place) => Fitted { number, place },
-    }
+    knots::stand(minutes, ordinates)?;
+    ends::given_ends(minutes.len(), left, right)?;
+    let numbers = work_out(minutes, ordinates, slopes, Job::Ends(left, right))?;
+    numbers::write(slopes, &numbers.slopes);
+    numbers::write(curvatures, &numbers.curvatures);
+    Ok(())
 }
 
-// All of the order; `named` is 15.
-fn fit_into(
+// All of the order, judged; `named` is 15.
+pub fn fit_into(
     minutes: &[u16],
     ordinates: &[i16],
     slopes: &mut [i32],
@@ -144,22 +136,19 @@ fn fit_into(
     named: Judged,
     left: End,
     right: End,
-) -> Fitted
+) -> Judged
     ensures { Fits
         (fit_of minutes.now ordinates.now left right (length slopes.old) (length curvatures.old) (verdict_of named))
-        slopes.old curvatures.old slopes.new curvatures.new result }
+        slopes.old curvatures.old slopes.new curvatures.new (fitted_of result) }
 {
-    let sized = knots::sized(
+    knots::sized(
         minutes.len(),
         ordinates.len(),
         slopes.len(),
         curvatures.len(),
         named,
-    );
-    match sized {
-        Judged::Accepted => stand_and_solve(minutes, ordinates, slopes, curvatures, left, right),
-        Judged::Refused(number, place) => Fitted { number, place },
-    }
+    )?;
+    fit_alike(minutes, ordinates, slopes, curvatures, left, right)
 }
 
 // Between ends named by their kind.
@@ -176,15 +165,7 @@ pub fn fit_between(
         left right)
         slopes.old curvatures.old slopes.new curvatures.new result }
 {
-    fit_into(
-        minutes,
-        ordinates,
-        slopes,
-        curvatures,
-        Judged::Accepted,
-        left,
-        right,
-    )
+    fit_into(minutes, ordinates, slopes, curvatures, Ok(()), left, right).into()
 }
 
 // Between ends that come as code numbers.
@@ -205,10 +186,10 @@ pub fn fit_codes(
         left left_slope left_curvature right right_slope right_curvature)
         slopes.old curvatures.old slopes.new curvatures.new result }
 {
-    let named = knots::codes(knots::Kind::quintic(), left, right);
+    let named = knots::codes(Kind::quintic(), left, right);
     let from = ends::end_by(left, left_slope, left_curvature);
     let to = ends::end_by(right, right_slope, right_curvature);
-    fit_into(minutes, ordinates, slopes, curvatures, named, from, to)
+    fit_into(minutes, ordinates, slopes, curvatures, named, from, to).into()
 }
 
 // "A fit without ends has slope 0 and curvature 0 given at the left, and stays free at the right": document 02, order 6.

@@ -3,6 +3,7 @@
 use Prim.Native.Nat.{ℕ}
 use mathlib.Core.Path.{◌≡◌}
 use mathlib.Core.List.{List}
+use Rattle.std.specs.Prelude.{Option}
 use lib.IntN.{ℤ, pos}
 use lib.ListN.{take, replicate}
 use borrow.Author.Tests.{eq-eqb, ne_eqb}
@@ -15,7 +16,7 @@ use Rattle.fit.specs.declared.Fitted.{Fitted}
 use Rattle.fit.specs.Promise.{Fits}
 use Rattle.fit_listing.specs.Printed.{listing_by, fit_listing, listed}
 
-pub listed_fit : {f : Answer Card} {ms Ms ms' Ms' : List ℤ} {r : Fitted} (xs : List ℕ) (ys : List ℤ) (fs : List ℕ)
+pub listed_fit : {f : Answer Card} {ms Ms ms' Ms' : List ℤ} {r : Fitted} (xs : List ℕ) (ys : List ℤ) (fs : List (Option ℕ))
     → Fits f ms Ms ms' Ms' r → listing r.number r.place xs ys ms' Ms' fs ≡ listing_by f xs ys ms Ms fs
 unfolding listing_by
 listed_fit xs ys fs h = rw (h.answer, h.slopes, h.curvatures)

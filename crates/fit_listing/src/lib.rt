@@ -14,7 +14,7 @@ fn list_fit(
     ordinates: &[i16],
     slopes: &mut [i32],
     curvatures: &mut [i32],
-    faults: &[u8],
+    faults: &[Option<u8>],
     text: &mut [u8],
 ) -> usize
     requires ordinates_len { (length ordinates.now ≡ length minutes.now) × (length slopes.old ≡ length minutes.now) × (length curvatures.old ≡ length minutes.now) }

@@ -1,12 +1,12 @@
 -- Where a count of parts falls, what the cubic is there, and how large its value can be.
 -- Assumes nothing.
-use mathlib.Core.Path.{◌≡◌, sym, ◌∙◌, ap, ap₂, subst}
+use mathlib.Core.Path.{◌≡◌, ◌∙◌, ap, subst}
 use mathlib.Core.List.{List, [], ◌∷◌}
 use Prim.Native.Nat.{ℕ, suc, ◌+◌, ◌-◌, ◌*◌, ◌/◌, ◌^◌, ◌≤◌, ◌<◌}
 use native.Mathlib.Decide.{dec_le}
 use native.Mathlib.Nat.{le_refl, le_trans, lt_of_not-le, mul-le-mul, div-mul-le_self, lt-div-mul-add, mul-le-mul_right, mul-pos, add-mul, one-mul, min-eq_left, min-eq_right}
 use native.Mathlib.Omega.{arith}
-use lib.IntN.{ℤ, pos, nat_abs, ◌+ℤ◌, ◌-ℤ◌, ◌*ℤ◌}
+use lib.IntN.{ℤ, pos, nat_abs, ◌-ℤ◌, ◌*ℤ◌}
 use lib.ListN.{length}
 use Rattle.whole.specs.Whole.{nearest}
 use Rattle.whole.proofs.Ring.{sub_diff, up_neg, dn_neg}
@@ -17,12 +17,12 @@ use Rattle.whole.proofs.Rounding.{nearest_most}
 use Rattle.curve.specs.Formula.{power, worth}
 use Rattle.curve.specs.Kind.{quintic}
 use Rattle.curve.proofs.Derivatives.{pos_power}
-use Rattle.cubic.specs.Cubic.{y, scale, unknown, cubic, between, denominator, largest}
+use Rattle.cubic.specs.Cubic.{y, scale, unknown, between, denominator}
 use Rattle.cubic.proofs.Sizes.{unknown_size, scale_positive}
 use Rattle.cubic.proofs.Smooth.{piece}
 use Rattle.unknowns.specs.Unknowns.{Sound}
 use Rattle.unknowns.proofs.Ranges.{scale_in}
-use Rattle.preheat.specs.Preheat.{fewest_parts, most_parts, step, numerator, value, weight, line, bent, InStep}
+use Rattle.preheat.specs.Preheat.{fewest_parts, most_parts, step, numerator, value, weight, InStep}
 use Rattle.preheat.proofs.Evaluation.{cubic_is}
 
 -- ---- where it falls

@@ -1,20 +1,19 @@
 -- Each answered value is as order 10 asks. Assumes nothing.
-use mathlib.Core.Path.{◌≡◌, refl, sym, ◌∙◌, ap, subst}
+use mathlib.Core.Path.{◌≡◌, sym, ◌∙◌, ap, subst}
 use mathlib.Core.List.{List}
-use Prim.Native.Nat.{ℕ, suc, ◌+◌, ◌-◌, ◌*◌, ◌/◌, ◌≤◌, ◌<◌}
+use Prim.Native.Nat.{ℕ, suc, ◌-◌, ◌*◌, ◌/◌, ◌≤◌, ◌<◌}
 use native.Mathlib.Decide.{dec_le}
 use native.Mathlib.Nat.{lt_of_not-le, le_antisymm, div-eq_of_lt-le, suc-mul, add-mul, one-mul, min-eq_left}
 use native.Mathlib.Omega.{arith}
 use lib.IntN.{ℤ, pos}
 use lib.ListN.{length}
-use Rattle.whole.specs.Whole.{◌·◌}
 use Rattle.whole.proofs.Rounding.{Nearest}
-use Rattle.answer.specs.Answer.{given, accepted}
+use Rattle.answer.specs.Answer.{given}
 use Rattle.answer.proofs.Steps.{given_same}
 use Rattle.curve.specs.Formula.{worth}
 use Rattle.curve.specs.Demand.{WithinHalf}
 use Rattle.curve.specs.Kind.{quintic}
-use Rattle.cubic.specs.Cubic.{y, between, denominator}
+use Rattle.cubic.specs.Cubic.{between, denominator}
 use Rattle.cubic.proofs.Equations.{continuous, only}
 use Rattle.cubic.proofs.Smooth.{spline}
 use Rattle.unknowns.specs.Unknowns.{Sound}

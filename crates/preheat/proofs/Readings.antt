@@ -6,7 +6,7 @@ use Prim.Native.Nat.{ℕ, ◌-◌, ◌*◌, ◌≤◌}
 use borrow.Author.Tests.{ltb-false}
 use lib.IntN.{ℤ}
 use lib.ListN.{length}
-use Rattle.answer.specs.Answer.{Answer, refused, given, Verdict, accepted, ◌then◌}
+use Rattle.answer.specs.Answer.{given, Verdict, accepted, ◌then◌}
 use Rattle.answer.proofs.Steps.{then_assoc, first_accepts, next_accepts, refuse_accepts, given_same}
 use Rattle.curve.proofs.Accepted.{or_false}
 use Rattle.unknowns.specs.Unknowns.{checked}
@@ -32,14 +32,6 @@ module _ (ys : List ℤ) (parts count : ℕ) where
   in_steps : preheat ys parts count ≡ (checked ys then (asked (length ys) parts count then given (value ys parts count)))
   unfolding preheat
   in_steps = ap (λ b. checked ys then b) (sym (then_assoc (parted parts) (past (length ys) parts count) (given (value ys parts count))))
-
-  pub not_checked : {n p : ℕ} → checked ys ≡ refused n p → preheat ys parts count ≡ refused n p
-  unfolding ◌then◌
-  not_checked e = in_steps ∙ rw e
-
-  pub not_asked : {n p : ℕ} → checked ys ≡ accepted → asked (length ys) parts count ≡ refused n p → preheat ys parts count ≡ refused n p
-  unfolding ◌then◌
-  not_asked e f = in_steps ∙ rw (e, f)
 
   pub answered : checked ys ≡ accepted → asked (length ys) parts count ≡ accepted → preheat ys parts count ≡ given (value ys parts count)
   unfolding ◌then◌

@@ -1,6 +1,6 @@
 -- What document 02, order 10, asks of an answered value, whoever made the table. The statements alone;
 -- proofs/Demand proves them. Fractions are compared by cross multiplication. Assumes nothing.
-use Rattle.std.specs.Prelude.{◌≡◌, List, ℕ, ◌+◌, ◌-◌, ◌*◌, ◌%◌, ◌≤◌, ◌<◌, ℤ, pos, nat_abs, ◌-ℤ◌, length}
+use Rattle.std.specs.Prelude.{◌≡◌, List, ℕ, ◌+◌, ◌*◌, ◌%◌, ◌≤◌, ◌<◌, ℤ, pos, nat_abs, ◌-ℤ◌, length}
 use Rattle.whole.specs.Whole.{◌·◌}
 use Rattle.curve.specs.Formula.{worth}
 use Rattle.curve.specs.Demand.{WithinHalf}

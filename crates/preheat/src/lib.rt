@@ -6,13 +6,13 @@
 ghost use Rattle.std.specs.Prelude.{◌≡◌, ◌-◌, ◌*◌, ◌≤◌, ◌<◌, nat_abs, ◌-ℤ◌, ◌*ℤ◌, length};
 ghost use Rattle.whole.specs.Whole.{nearest};
 ghost use Rattle.answer.specs.Answer.{refused, ◌then◌};
-ghost use Rattle.answer.specs.Judge.{verdict_of};
+ghost use Rattle.answer.specs.Judge.{number_of, verdict_of};
 ghost use Rattle.curve.specs.Formula.{num, worth};
 ghost use Rattle.cubic.specs.Cubic.{cubic};
-ghost use Rattle.unknowns.specs.Unknowns.{Sound};
+ghost use Rattle.unknowns.specs.Unknowns.{answer_of, Sound};
 ghost use Rattle.preheat.specs.Preheat.{fewest_parts, most_parts, step, value, parted, past, preheat, heated, weight, bent, InLeft, InBend, InLevel, InStep};
 
-use answer::Judged;
+use answer::{Judged, Reason, Refusal};
 
 const FEWEST_PARTS: u16 = 2;
 
@@ -74,15 +74,12 @@ fn rounded(a: i64, q: i64, r: i64, y0: i64, y1: i64, z0: i64, z1: i64) -> i64
 // ---- of a table
 
 // The step that a count falls into, of n values.
+#[tactic(auto, unfolding(crate::specs::Preheat::step))]
 fn step_of(n: usize, parts: usize, count: usize) -> usize
     requires { (2 ≤ n) × (0 < parts) }
     ensures { result ≡ step n parts count }
 {
-    let i = count / parts;
-    if i < n - 1 {
-        return i;
-    }
-    n - 2
+    (count / parts).min(n - 2)
 }
 
 fn value_in(ys: &[i16], parts: usize, count: usize) -> i64
@@ -108,22 +105,20 @@ fn value_in(ys: &[i16], parts: usize, count: usize) -> i64
 }
 
 // 25, 11.
+#[tactic(auto, using(answer::proofs::Orders::orders), unfolding(crate::specs::Preheat::parted, crate::specs::Preheat::past))]
 fn asked(n: usize, parts: u16, count: u16) -> Judged
     requires { (0 < n) × (n < 65536) }
     ensures { verdict_of result ≡ (parted parts then past n parts count) }
 {
-    if parts < FEWEST_PARTS {
-        return Judged::Refused(25, 0);
-    }
-    if MOST_PARTS < parts {
-        return Judged::Refused(25, 0);
-    }
-    answer::refuse(11, 0, (n - 1) * (parts as usize) < count as usize)
+    let unfit = parts < FEWEST_PARTS || MOST_PARTS < parts;
+    answer::refuse(Reason::UnfitParts, 0, unfit)?;
+    let behind = (n - 1) * (parts as usize) < count as usize;
+    answer::refuse(Reason::Outside, 0, behind)
 }
 
 // ---- answered
 
-// The value in hundredths: beyond the table's own where the cubic swings.
+// The value in hundredths, or a zero beside the number and place of a refusal: what C is told.
 #[repr(C)]
 #[derive(Drop)]
 pub struct Heated {
@@ -132,32 +127,38 @@ pub struct Heated {
     pub value: i32,
 }
 
-impl Heated {
-    // A zero beside number and place.
-    fn refused(number: u32, place: u32) -> Heated
-        ensures { result ≡ heated (refused number place) }
-    {
+impl From<Refusal> for Heated {
+    ghost from_gives = { λ r answer. answer ≡ heated (refused (number_of r.reason) r.place) };
+
+    fn from(refusal: Refusal) -> Heated {
         Heated {
-            number,
-            place,
+            number: refusal.number(),
+            place: refusal.place,
             value: 0,
         }
     }
+}
+
+// Beyond the table's own values where the cubic swings.
+#[tactic(auto, using(answer::proofs::Orders::orders), unfolding(crate::specs::Preheat::preheat))]
+fn found(ys: &[i16], parts: u16, count: u16) -> Result<i32, Refusal>
+    ensures { answer_of result ≡ preheat ys.now parts count }
+{
+    unknowns::check(ys)?;
+    asked(ys.len(), parts, count)?;
+    Ok(value_in(ys, parts as usize, count as usize) as i32)
 }
 
 // 1, 24, 6; 25; 11.
 pub fn value(ys: &[i16], parts: u16, count: u16) -> Heated
     ensures { result ≡ heated (preheat ys.now parts count) }
 {
-    match unknowns::check(ys) {
-        Judged::Refused(number, place) => Heated::refused(number, place),
-        Judged::Accepted => match asked(ys.len(), parts, count) {
-            Judged::Refused(number, place) => Heated::refused(number, place),
-            Judged::Accepted => Heated {
-                number: 0,
-                place: 0,
-                value: value_in(ys, parts as usize, count as usize) as i32,
-            },
+    match found(ys, parts, count) {
+        Ok(value) => Heated {
+            number: 0,
+            place: 0,
+            value,
         },
+        Err(refusal) => Heated::from(refusal),
     }
 }

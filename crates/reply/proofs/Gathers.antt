@@ -10,6 +10,7 @@ use lib.IntN.{pos}
 use lib.ListN.{length, replicate}
 use lib.Seq.{length-sets}
 use Rattle.answer.specs.Answer.{Answer, refused, given, Verdict, ◌then◌}
+use Rattle.listing.specs.Text.{no_log}
 use Rattle.gather.specs.declared.Gathered.{Gathered}
 use Rattle.gather.specs.Gathered.{most, logs, filled, gathering, settled}
 use Rattle.gather.specs.Step.{none, with_knot, with_knots, closing}
@@ -67,5 +68,5 @@ roomy a ls few =
       few = omega (arith, so_many_from a ls 0 a.knots);
       minutes = length-sets (replicate most 0) 0 (map (λ k. k.minute) ks);
       ordinates = length-sets (replicate most (pos 0)) 0 (map (λ k. k.ordinate) ks);
-      faults = length-sets (replicate most 0) 0 (map (λ k. k.faults) ks);
+      faults = length-sets (replicate most no_log) 0 (map (λ k. k.faults) ks);
     }))

@@ -37,9 +37,9 @@ use Rattle.gather.specs.Gathered.{plain, logs, filled, gathering, settled}
 use Rattle.decimal.specs.Decimal.{spelled, value_from}
 use Rattle.split.specs.Parts.{marks, stop, split, some, words}
 use Rattle.numeral.specs.Number.{starts, at_most, natural, above, below, signed_number, narrowed, ordinate}
-use Rattle.text.specs.Sheet.{with_ordinate, behind, knot_by, with_slope, line_by, line, refused as nothing, with_knot, without_slope, sloping, taken, goes_on, read, sheet}
+use Rattle.text.specs.Sheet.{with_ordinate, behind, knot_by, with_slope, line_by, line, no_knots, with_knot, without_slope, sloping, taken, blaming, line_taken, then, read, sheet}
 use Rattle.reply.specs.Knots.{knot_at, knots_from}
-use Rattle.reply.specs.Reply.{blamed, Reply, refusing, listing_of, reply_of, gathered_reply, text_reply, reply}
+use Rattle.reply.specs.Reply.{blamed, Reply, refusing, listing_of, reply_of, gathered_reply, sheet_answer, reply}
 
 abbrev typed : List String → List ℕ
 typed [] = []
@@ -66,5 +66,5 @@ unfolding p1 table_3 add sub mul div neg of_bits of_int ne beyond nearest ◌the
     le signed_bytes header head_bytes knot_bytes end_bytes rows knot_row bytes_of written Equations.gap Equations.no_gap line_solved line_eliminated
     slope_before slope_after line_between right_gap left_gap line_at run_to turned back_to back_from passes units_of solved eliminated card_of ranged slopes_fit
     plain logs filled gathering settled spelled value_from marks stop split some words starts at_most natural above below signed_number narrowed ordinate with_ordinate behind knot_by with_slope
-    line_by line nothing with_knot without_slope sloping taken goes_on read sheet knot_at knots_from blamed refusing listing_of reply_of gathered_reply text_reply
+    line_by line no_knots with_knot without_slope sloping taken blaming line_taken then read sheet knot_at knots_from blamed refusing listing_of reply_of gathered_reply sheet_answer
 by_slopes_said = (refl, refl, refl, refl, refl, refl, refl)

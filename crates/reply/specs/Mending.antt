@@ -1,6 +1,6 @@
 -- What the text of a sheet with holes, with the logs that it names, is answered with: the reply to the mended knots, the changes, and the lines of the knots. Document 02, orders 1 and 4.
 -- Assumes nothing.
-use Rattle.std.specs.Prelude.{ℕ, ◌≡◌, true, cond, List, [], eqb, ℤ, pos, length, take, replicate}
+use Rattle.std.specs.Prelude.{ℕ, ◌≡◌, true, cond, List, [], eqb, ℤ, pos, length, take, replicate, Result, Ok, Err}
 use Rattle.answer.specs.Answer.{number, place}
 use Rattle.curve.specs.Kind.{quintic}
 use Rattle.knots.specs.Lent.{lent}
@@ -11,6 +11,8 @@ use Rattle.mend.specs.declared.Plan.{Plan}
 use Rattle.mend.specs.Order.{mend}
 use Rattle.mend.specs.Changes.{changes}
 use Rattle.mend.specs.Promise.{made, ordinates_after, plan_of}
+use Rattle.text.specs.declared.Blame.{Blame}
+use Rattle.text.specs.declared.Sheet.{Sheet}
 use Rattle.text.specs.Sheet.{most, sheet}
 use Rattle.gather.specs.declared.Gathered.{Gathered}
 use Rattle.reply.specs.Knots.{gathered}
@@ -42,8 +44,17 @@ gathered_plan g =
     cond (eqb g.number 0) (knots_plan (take n g.minutes) (take n g.ordinates) zeros zeros) (plan_of g.number g.place [])
 
 -- none in a text that is no sheet
-unfoldable pub text_plan : (text logs : List ℕ) → Plan
-text_plan s logs = let a = sheet true s in cond (eqb a.wrong 0) (gathered_plan (gathered a logs)) (plan_of 0 0 [])
+unfoldable pub sheet_plan : Result Sheet Blame → (logs : List ℕ) → Plan
+sheet_plan (Err b) logs = plan_of 0 0 []
+sheet_plan (Ok a) logs = gathered_plan (gathered a logs)
+
+abbrev pub text_plan : (text logs : List ℕ) → Plan
+text_plan s logs = sheet_plan (sheet true s) logs
+
+-- of each knot its line; zeros where the text is no sheet
+unfoldable pub lines_of : Result Sheet Blame → List ℕ
+lines_of (Err b) = replicate most 0
+lines_of (Ok a) = a.lines
 
 -- the reply was given, and these are the changes and the lines beside it
 pub record Mends (p : Reply) (plan : Plan) (ls to to' card' : List ℕ) (r : Mending) : Type 0 where

@@ -3,31 +3,31 @@
 
 ghost use Rattle.std.specs.Prelude.{◌≡◌, true, false, cond, [], ◌≤◌, ◌<◌, length, get_or};
 ghost use Rattle.knots.specs.Lent.{lent};
-ghost use Rattle.words.specs.Said.{wrong_line};
 ghost use Rattle.writer.specs.Promise.{Writes};
 ghost use Rattle.gather.specs.Gathered.{plain, logged};
-ghost use Rattle.text.specs.Sheet.{most, sheet as sheet_of, blamed as blamed_word};
+ghost use Rattle.text.specs.Sheet.{most, sheet as sheet_of};
 ghost use Rattle.reply.specs.Knots.{log_at, gathered};
-ghost use Rattle.reply.specs.Mending.{mend_reply, mending_reply, knots_plan, text_plan, Mends};
-ghost use Rattle.reply.specs.Reply.{of_a_log, of_a_knot, blamed, refusing, refusing_knots, form_kind, form_left, form_right, reply_of, fit_reply, by_slopes, reply, Answers};
+ghost use Rattle.reply.specs.Mending.{mend_reply, mending_reply, knots_plan, text_plan, lines_of, Mends};
+ghost use Rattle.reply.specs.Reply.{of_a_log, of_a_knot, blamed, byte_of, complaint, refusing_knots, form_kind, form_left, form_right, reply_of, fit_reply, by_slopes, reply, Answers};
 
 use gather::{Gathered, Knot};
 use mend::Plan;
 use rows::End;
-use text::Sheet;
+use text::{Blame, Sheet};
 use writer::Written;
 
 // The logs of a sheet as they were read: for knot i, the byte at SLOT * i says how many bytes its log has, and they stand behind it; a log too long for its slot is told as 61 bytes, one more than a log may have.
 pub const SLOT: usize = 62;
 
 // Any list is answered: a log ends where the list does.
+#[tactic(auto, using(crate::proofs::Slots::no_slot, crate::proofs::Slots::in_slot, crate::proofs::Slots::short_slot))]
 fn log_at(logs: &[u8], i: usize) -> &[u8]
     requires { i < most }
     ensures { result.now ≡ log_at logs.now i }
 {
     let at = SLOT * i;
     if logs.len() <= at {
-        return split::from(logs, logs.len());
+        return b"";
     }
     let bytes = split::from(logs, at + 1);
     let n = logs[at] as usize;
@@ -53,56 +53,36 @@ fn gathered(sheet: Sheet, logs: &[u8]) -> Gathered
     ensures { result ≡ gathered sheet logs.now }
 {
     let mut so_far = Gathered::refused(0, 0);
-    let mut i: usize = 0;
-    while i < sheet.knots {
+    for i in 0..sheet.knots {
         let knot = knot_at(sheet.logs[i], sheet.minutes[i], sheet.ordinates[i], logs, i);
         so_far = so_far.with_knot(knot);
-        i += 1;
     }
     so_far.close()
 }
 
-// What a log is refused with.
+// What a log is refused with. The numbers are those of the structs that C receives.
 fn of_a_log(number: u32) -> bool
     ensures { result ≡ of_a_log number }
 {
-    if number == 12 {
-        return true;
-    }
-    if number == 13 {
-        return true;
-    }
-    if number == 16 {
-        return true;
-    }
-    number == 19 || number == 23
+    matches!(number, 12 | 13 | 16 | 19 | 23)
 }
 
 // The numbers whose place in a sheet is a knot.
 fn of_a_knot(number: u32) -> bool
     ensures { result ≡ of_a_knot number }
 {
-    if of_a_log(number) {
-        return true;
-    }
-    if number == 17 {
-        return true;
-    }
-    3 < number && number < 11
+    of_a_log(number) || matches!(number, 17 | 4..=10)
 }
 
 // The line of a knot; 0 behind the last.
 pub fn line_of(lines: [u32; Sheet::MOST], knot: u32) -> u32
     ensures { result ≡ get_or lines knot 0 }
 {
-    let at = knot as usize;
-    if Sheet::MOST <= at {
-        return 0;
-    }
-    lines[at]
+    lines.get(knot as usize).copied().unwrap_or(0)
 }
 
 // The line of the knot that is refused; 0 where no knot is.
+#[tactic(auto, unfolding(crate::specs::Reply::blamed))]
 fn blamed(lines: [u32; Sheet::MOST], number: u32, knot: u32) -> u32
     ensures { result ≡ blamed lines number knot }
 {
@@ -112,21 +92,34 @@ fn blamed(lines: [u32; Sheet::MOST], number: u32, knot: u32) -> u32
     0
 }
 
+// The first byte of an answer.
+#[derive(Clone, Copy, PartialEq, Eq)]
+pub enum Status {
+    Done,
+    Refused,
+}
+
+impl Status {
+    pub fn byte(self) -> u8
+        ensures { result ≡ byte_of self }
+    {
+        match self {
+            Status::Done => b'0',
+            Status::Refused => b'1',
+        }
+    }
+}
+
 // The status, the length of what is said, and the size of the card.
-#[derive(Drop)]
+#[derive(Clone, Copy)]
 pub struct Answered {
-    pub status: u8,
+    pub status: Status,
     pub length: usize,
     pub card: u32,
 }
 
-impl Answered {
-    pub const DONE: u8 = b'0';
-
-    pub const REFUSED: u8 = b'1';
-}
-
 // Knots that are refused; the card stays as it is.
+#[tactic(auto, unfolding(crate::specs::Reply::refusing))]
 fn refuse_knots(number: u32, place: u32, lines: [u32; Sheet::MOST], to: &mut [u8]) -> Answered
     requires { 4096 ≤ length to.old }
     ensures { Answers (refusing_knots number place lines []) to.old to.new [] result }
@@ -134,7 +127,7 @@ fn refuse_knots(number: u32, place: u32, lines: [u32; Sheet::MOST], to: &mut [u8
     let line = blamed(lines, number, place);
     let length = words::refused_line(to, number, place, line);
     Answered {
-        status: Answered::REFUSED,
+        status: Status::Refused,
         length,
         card: 0,
     }
@@ -176,7 +169,7 @@ fn told(
     ordinates: &[i16],
     slopes: &[i32],
     curvatures: &[i32],
-    faults: &[u8],
+    faults: &[Option<u8>],
     lines: [u32; Sheet::MOST],
     to: &mut [u8],
     card: &mut [u8],
@@ -191,13 +184,14 @@ fn told(
     let written = write(form, minutes, ordinates, slopes, curvatures, card);
     let length = listing::list(0, 0, minutes, ordinates, slopes, curvatures, faults, to);
     Answered {
-        status: Answered::DONE,
+        status: Status::Done,
         length,
         card: written.bytes,
     }
 }
 
 // The card has the codes of the ends between which it was fitted.
+#[tactic(auto, using(crate::proofs::Replies::answers_as, crate::proofs::Replies::replies_fitted))]
 fn fit_lists(
     minutes: &[u16],
     ordinates: &[i16],
@@ -205,7 +199,7 @@ fn fit_lists(
     curvatures: &mut [i32],
     left: End,
     right: End,
-    faults: &[u8],
+    faults: &[Option<u8>],
     lines: [u32; Sheet::MOST],
     to: &mut [u8],
     card: &mut [u8],
@@ -231,12 +225,13 @@ fn fit_lists(
 }
 
 // The slopes are given, one for each knot, and only the curvatures fitted.
+#[tactic(auto, using(crate::proofs::Replies::answers_as, crate::proofs::Replies::replies_sloped))]
 fn slope_lists(
     minutes: &[u16],
     ordinates: &[i16],
     slopes: &[i32],
     curvatures: &mut [i32],
-    faults: &[u8],
+    faults: &[Option<u8>],
     lines: [u32; Sheet::MOST],
     to: &mut [u8],
     card: &mut [u8],
@@ -271,7 +266,7 @@ fn sheet_lists(
     curvatures: &mut [i32],
     left: End,
     right: End,
-    faults: &[u8],
+    faults: &[Option<u8>],
     lines: [u32; Sheet::MOST],
     to: &mut [u8],
     card: &mut [u8],
@@ -291,14 +286,15 @@ fn sheet_lists(
 }
 
 // What is wrong in the text of a sheet, with the word that is to blame; the card stays as it is.
-fn complain(text: &[u8], wrong: u32, line: u32, to: &mut [u8]) -> Answered
+#[tactic(auto, unfolding(crate::specs::Reply::refusing))]
+fn complain(text: &[u8], blame: Blame, to: &mut [u8]) -> Answered
     requires { 4096 ≤ length to.old }
-    ensures { Answers (refusing (wrong_line wrong line (blamed_word text.now line)) []) to.old to.new [] result }
+    ensures { Answers (complaint text.now blame []) to.old to.new [] result }
 {
-    let word = text::blamed(text, line);
-    let length = words::wrong_line(to, wrong, line, word);
+    let word = text::blamed(text, blame.line);
+    let length = words::wrong_line(to, blame.wrong, blame.line, word);
     Answered {
-        status: Answered::REFUSED,
+        status: Status::Refused,
         length,
         card: 0,
     }
@@ -308,7 +304,7 @@ fn complain(text: &[u8], wrong: u32, line: u32, to: &mut [u8]) -> Answered
 // ends where it has none. The sheet is the text's.
 pub fn answer(
     text: &[u8],
-    sheet: Sheet,
+    sheet: Result<Sheet, Blame>,
     logs: &[u8],
     left: End,
     right: End,
@@ -318,9 +314,10 @@ pub fn answer(
     requires { (sheet ≡ sheet_of false text.now) × (4096 ≤ length to.old) }
     ensures { Answers (reply left right text.now logs.now card.old) to.old to.new card.new result }
 {
-    if sheet.wrong != 0 {
-        return complain(text, sheet.wrong, sheet.line, to);
-    }
+    let sheet = match sheet {
+        Err(blame) => return complain(text, blame, to),
+        Ok(sheet) => sheet,
+    };
     let lines = sheet.lines;
     let sloped = sheet.sloped;
     let given = sheet.slopes;
@@ -363,12 +360,13 @@ impl Mending {
     const ROOM: usize = holes::MOST;
 }
 
+#[tactic(auto, using(crate::proofs::Replies::answers_as, crate::proofs::Replies::replies_mended))]
 fn mend_lists(
     minutes: &[u16],
     ordinates: &mut [i16],
     slopes: &mut [i32],
     curvatures: &mut [i32],
-    faults: &[u8],
+    faults: &[Option<u8>],
     lines: [u32; Sheet::MOST],
     to: &mut [u8],
     card: &mut [u8],
@@ -402,28 +400,33 @@ fn mend_lists(
 }
 
 // The knots of a sheet, with the logs that it names, its holes filled, and their fit, between free ends. The sheet is the text's.
-pub fn mend(text: &[u8], sheet: Sheet, logs: &[u8], to: &mut [u8], card: &mut [u8]) -> Mending
+pub fn mend(
+    text: &[u8],
+    sheet: Result<Sheet, Blame>,
+    logs: &[u8],
+    to: &mut [u8],
+    card: &mut [u8],
+) -> Mending
     requires { (sheet ≡ sheet_of true text.now) × (4096 ≤ length to.old) }
-    ensures { Mends (mending_reply text.now logs.now card.old) (text_plan text.now logs.now) sheet.lines
+    ensures { Mends (mending_reply text.now logs.now card.old) (text_plan text.now logs.now) (lines_of sheet)
         to.old to.new card.new result }
 {
+    let sheet = match sheet {
+        Err(blame) => {
+            return Mending {
+                answered: complain(text, blame, to),
+                plan: Plan::unchanged(0, 0),
+                lines: [0; Sheet::MOST],
+            };
+        }
+        Ok(sheet) => sheet,
+    };
     let lines = sheet.lines;
-    if sheet.wrong != 0 {
-        let answered = complain(text, sheet.wrong, sheet.line, to);
-        let plan = Plan::unchanged(0, 0);
-        return Mending {
-            answered,
-            plan,
-            lines,
-        };
-    }
     let all = gathered(sheet, logs);
     if all.number != 0 {
-        let answered = refuse_knots(all.number, all.place, lines, to);
-        let plan = Plan::unchanged(all.number, all.place);
         return Mending {
-            answered,
-            plan,
+            answered: refuse_knots(all.number, all.place, lines, to),
+            plan: Plan::unchanged(all.number, all.place),
             lines,
         };
     }

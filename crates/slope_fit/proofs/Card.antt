@@ -1,7 +1,7 @@
 -- An accepted fit gives a card that kind 6's test accepts: the knots and slopes that it was handed, both
 -- codes 0, and as many curvatures as there are knots. Assumes nothing.
 use Prim.Native.Nat.{ℕ}
-use mathlib.Core.Path.{◌≡◌, refl, sym, ap, ap₂, subst, ◌∙◌}
+use mathlib.Core.Path.{◌≡◌, refl, sym, ap, subst, ◌∙◌}
 use mathlib.Core.List.{List}
 use lib.IntN.{ℤ}
 use lib.ListN.{length}
@@ -14,6 +14,7 @@ use Rattle.curve.specs.Orders.{sound, verdict, fit_order}
 use Rattle.curve.proofs.Accepted.{same_lengths}
 use Rattle.front.proofs.Listed.{length_listed}
 use Rattle.knots.specs.Lent.{lent}
+use Rattle.passes.specs.Passes.{pairs_in}
 use Rattle.numbers.specs.Numbers.{curvature_at}
 use Rattle.fit.proofs.Card.{card_in, shared}
 use Rattle.slope_fit.specs.SlopesFit.{solved, card_of, slopes_fit}
@@ -39,13 +40,13 @@ module _ (xs : List ℕ) (ys ms : List ℤ) (Ms : ℕ) {c : Card} (e : slopes_fi
 
   pub places_written : length c.curvatures ≡ length xs
   unfolding card_of
-  places_written = ap (λ d. length d.curvatures) its_card ∙ length_listed (curvature_at (solved xs ys ms).pairs) (length xs)
+  places_written = ap (λ d. length d.curvatures) its_card ∙ length_listed (curvature_at (pairs_in (solved xs ys ms))) (length xs)
 
   own_verdict : verdict sloped (card_of xs ys ms) ≡ accepted
   unfolding slopes_fit fit_order verdict sound card_of knots
   own_verdict =
       let s = shared _ _ _ _ _ _ _ (first_accepts _ _ e) in
-      let lent = ap (lengths (length xs) (length ys) (length ms)) (length_listed (curvature_at (solved xs ys ms).pairs) (length xs) ∙ sym places_lent.1) in
+      let lent = ap (lengths (length xs) (length ys) (length ms)) (length_listed (curvature_at (pairs_in (solved xs ys ms))) (length xs) ∙ sym places_lent.1) in
       both_accept (lent ∙ s.0) (both_accept s.1 (both_accept codes_0 (both_accept s.3 s.4)))
 
   -- the card's test accepts it

@@ -9,10 +9,10 @@ use lib.ListN.{length, get_or, take, replicate, get_or-replicate}
 use lib.Seq.{get_or-take}
 use borrow.Author.Tests.{lt-leb}
 use Rattle.whole.specs.Whole.{beyond}
-use Rattle.answer.specs.Answer.{accepted, refuse, each}
+use Rattle.answer.specs.Answer.{refuse, each}
 use Rattle.answer.proofs.Steps.{each_same}
 use Rattle.curve.specs.Kind.{Kind, quintic, sloped}
-use Rattle.curve.specs.Card.{Card, knots, knot, gap, on, joint}
+use Rattle.curve.specs.Card.{knots, knot, gap, on, joint}
 use Rattle.curve.specs.Steps.{slope_beyond, curvature_beyond, in_range, slope_in_range}
 use Rattle.knots.specs.Lent.{lent}
 use Rattle.slope_fit.specs.SlopesFit.{card_of, ranged}

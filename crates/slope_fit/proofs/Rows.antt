@@ -13,7 +13,7 @@ use Rattle.answer.specs.Answer.{Answer, refused, given, ◌then◌, refuse, each
 use Rattle.curve.specs.Formula.{power, worth, ∂, ∂^, amount}
 use Rattle.curve.specs.Curve.{degree, rightward, leftward, allowance}
 use Rattle.curve.specs.Kind.{quintic_asks, quintic, sloped_asks, sloped_allowance, sloped}
-use Rattle.curve.specs.Card.{Card, knots, knot, back, on, gap, spot, joint}
+use Rattle.curve.specs.Card.{knots, knot, back, on, gap, spot, joint}
 use Rattle.curve.specs.Jump.{inverse, clear, over, rise, jump, allowed, jumps}
 use Rattle.curve.specs.Steps.{slope_beyond, curvature_beyond, lengths, counted, stands, in_range, slope_in_range, smooth}
 use Rattle.curve.specs.Orders.{numbers_sound, fit_order}

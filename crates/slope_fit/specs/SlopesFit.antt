@@ -4,7 +4,6 @@
 -- were. Assumes nothing.
 use Rattle.std.specs.Prelude.{ℕ, List, length, ℤ}
 use Rattle.answer.specs.Answer.{Answer, given, Verdict, accepted, ◌then◌, each}
-use Rattle.answer.specs.Judge.{numbered}
 use Rattle.curve.specs.Kind.{sloped}
 use Rattle.curve.specs.Card.{Card}
 use Rattle.curve.specs.Steps.{stands, slope_in_range}
@@ -12,9 +11,8 @@ use Rattle.curve.specs.Orders.{fit_order}
 use Rattle.front.specs.Front.{listed}
 use Rattle.knots.specs.Lent.{lent}
 use Rattle.lines.specs.Lines.{line_back}
-use Rattle.passes.specs.declared.Solved.{Solved}
 use Rattle.passes.specs.Sheet.{line_at}
-use Rattle.passes.specs.Passes.{passes}
+use Rattle.passes.specs.Passes.{Solved, pairs_in, verdict_in, passes}
 use Rattle.numbers.specs.Numbers.{curvature_at}
 
 module _ (xs : List ℕ) (ys ms : List ℤ) where
@@ -24,11 +22,11 @@ module _ (xs : List ℕ) (ys ms : List ℤ) where
 
   -- 8
   unfoldable pub eliminated : Verdict
-  eliminated = numbered solved.number solved.place
+  eliminated = verdict_in solved
 
   -- the card that it gives: the slopes as they were given, "both codes 0"
   unfoldable pub card_of : Card
-  card_of = lent xs ys ms (listed (curvature_at solved.pairs) (length xs)) 0 0
+  card_of = lent xs ys ms (listed (curvature_at (pairs_in solved)) (length xs)) 0 0
 
   -- "9 for the given slopes"
   unfoldable pub ranged : Verdict

@@ -1,59 +1,63 @@
--- `card_listing::list_card` meets its contract, by what the reading of the card answers. Assumes nothing.
-use Prim.Native.Nat.{◌≤◌}
-use mathlib.Core.Path.{◌≡◌, refl, sym}
+-- `card_listing::list_card` meets its contract: what was opened is the card that the bytes hold.
+-- Assumes nothing.
+use mathlib.Core.Path.{◌≡◌, sym, ap, ◌∙◌}
+use mathlib.Core.List.{[]}
 use native.Mathlib.Omega.{arith}
-use lib.IntN.{pos}
-use lib.ListN.{length, replicate}
-use lib.Seq.{length-take-le}
-use Rattle.decode.specs.Decoded.{most}
-use Rattle.card_listing.proofs.Listings.{Roomy, few, printed_read, own_number}
+use lib.ListN.{length}
+use Rattle.answer.specs.Answer.{accepted, refused}
+use Rattle.answer.specs.Judge.{verdict_of}
+use Rattle.answer.proofs.Chain.{step_accepts, step_refused}
+use Rattle.curve.specs.Kind.{quintic}
+use Rattle.curve.specs.Card.{Card, knots}
+use Rattle.knots.specs.Lent.{card_lent}
+use Rattle.card_bytes.specs.Held.{card_of}
+use Rattle.card_bytes.proofs.ByHead.{accepted_good, accepted_count}
+use Rattle.card.specs.Answers.{own}
+use Rattle.opened.proofs.Opening.{accepted_holds}
+use Rattle.listing.specs.Text.{listing}
+use Rattle.card_listing.specs.Printed.{card_listing, printed}
 use Rattle.card_listing.proofs.list_card.Goals as goal
-use Rattle.card_listing.proofs.list_card.Goals.{After-read-read}
+use Rattle.card_listing.proofs.list_card.Goals.{In-Ok, After-lent-held}
 
-zeros : Roomy (record { minutes = replicate most 0; ordinates = replicate most (pos 0); slopes = replicate most (pos 0); curvatures = replicate most (pos 0) })
-zeros = record { minutes = refl; ordinates = refl; slopes = refl; curvatures = refl }
+accepts : (c : In-Ok) → own c.args.card.now ≡ accepted
+accepts c = step_accepts c.by_head-opened.ensures.judged c.in-Ok.is
 
-fits : (c : After-read-read) → c.read-read.result.knots ≤ most
-fits c = few c.args.card.now zeros c.read-read.ensures
+pub lent-held-requires : goal.lent-held-requires
+lent-held-requires c = (accepted_holds c.by_head-opened.ensures (accepts (goal.at.lent-held-requires c).In-Ok)).full
 
-minutes_hold : (c : After-read-read) → c.read-read.result.knots ≤ length c.read-read.new.minutes
-minutes_hold c = let f = fits c in omega arith
+module _ (c : After-lent-held) where
+  own_accepts : own c.args.card.now ≡ accepted
+  own_accepts = accepts (goal.at.After-lent-held c).In-Ok
 
-pub slice_bounds-minutes-end : goal.slice_bounds-minutes-end
-slice_bounds-minutes-end c = minutes_hold (goal.at.slice_bounds-minutes-end c).After-read-read
+  lent_is : card_lent c.lent-held.result ≡ card_of c.args.card.now
+  lent_is = c.lent-held.ensures ∙ (accepted_holds c.by_head-opened.ensures own_accepts).is
 
-pub slice_bounds-list-end : goal.slice_bounds-list-end
-slice_bounds-list-end c = sym (length-take-le _ _ (minutes_hold (goal.at.slice_bounds-list-end c).After-read-read))
+  printed_is : (let l = c.lent-held.result in listing 0 0 l.minutes.now l.ordinates.now l.slopes.now l.curvatures.now [] ≡ printed c.args.card.now)
+  unfolding printed card_listing
+  printed_is = ap (λ (k : Card). listing 0 0 k.minutes k.ordinates k.slopes k.curvatures []) lent_is ∙ ap (λ v. card_listing v (card_of c.args.card.now)) (sym own_accepts)
 
-ordinates_hold : (c : After-read-read) → c.read-read.result.knots ≤ length c.read-read.new.ordinates
-ordinates_hold c = let f = fits c in omega arith
+pub list-length-requires-in-Ok-clause-ordinates_len : goal.list-length-requires-in-Ok-clause-ordinates_len
+unfolding knots
+list-length-requires-in-Ok-clause-ordinates_len c =
+    let h = (goal.at.list-length-requires-in-Ok-clause-ordinates_len c).After-lent-held in
+    let g = accepted_good c.args.card.now (own_accepts h) in
+    let e = lent_is h in
+    let n = sym (ap (λ (k : Card). length k.minutes) e) in
+    (ap (λ (k : Card). length k.ordinates) e ∙ g.ys ∙ n, ap (λ (k : Card). length k.slopes) e ∙ g.ms ∙ n, ap (λ (k : Card). length k.curvatures) e ∙ g.Ms ∙ n)
 
-pub slice_bounds-ordinates-end : goal.slice_bounds-ordinates-end
-slice_bounds-ordinates-end c = ordinates_hold (goal.at.slice_bounds-ordinates-end c).After-read-read
+pub list-length-requires-in-Ok-clause-minutes_len_bound : goal.list-length-requires-in-Ok-clause-minutes_len_bound
+unfolding quintic knots
+list-length-requires-in-Ok-clause-minutes_len_bound c =
+    let h = (goal.at.list-length-requires-in-Ok-clause-minutes_len_bound c).After-lent-held in
+    let few = (accepted_count c.args.card.now (own_accepts h)).many in
+    let n = ap (λ (k : Card). length k.minutes) (lent_is h) in
+    (omega (arith, few, n), omega (arith, few, n, c.requires))
 
-pub slice_bounds-list-end-2 : goal.slice_bounds-list-end-2
-slice_bounds-list-end-2 c = sym (length-take-le _ _ (ordinates_hold (goal.at.slice_bounds-list-end-2 c).After-read-read))
+pub returns-in-Err-clause-put : goal.returns-in-Err-clause-put
+unfolding printed card_listing
+returns-in-Err-clause-put c =
+    rw (step_refused c.by_head-opened.ensures.judged c.in-Err.is)
+    rw (sym c.number-number.ensures) c.list-length.ensures
 
-slopes_hold : (c : After-read-read) → c.read-read.result.knots ≤ length c.read-read.new.slopes
-slopes_hold c = let f = fits c in omega arith
-
-pub slice_bounds-slopes-end : goal.slice_bounds-slopes-end
-slice_bounds-slopes-end c = slopes_hold (goal.at.slice_bounds-slopes-end c).After-read-read
-
-pub slice_bounds-list-end-3 : goal.slice_bounds-list-end-3
-slice_bounds-list-end-3 c = sym (length-take-le _ _ (slopes_hold (goal.at.slice_bounds-list-end-3 c).After-read-read))
-
-curvatures_hold : (c : After-read-read) → c.read-read.result.knots ≤ length c.read-read.new.curvatures
-curvatures_hold c = let f = fits c in omega arith
-
-pub slice_bounds-curvatures-end : goal.slice_bounds-curvatures-end
-slice_bounds-curvatures-end c = curvatures_hold (goal.at.slice_bounds-curvatures-end c).After-read-read
-
-pub slice_bounds-list-end-4 : goal.slice_bounds-list-end-4
-slice_bounds-list-end-4 c = sym (length-take-le _ _ (curvatures_hold (goal.at.slice_bounds-list-end-4 c).After-read-read))
-
-pub returns-clause-put : goal.returns-clause-put
-returns-clause-put c = rw (sym (printed_read c.args.card.now zeros c.read-read.ensures)) c.list-length.ensures
-
-pub returns-clause-number_value : goal.returns-clause-number_value
-returns-clause-number_value c = own_number c.args.card.now zeros c.read-read.ensures
+pub returns-in-Ok-clause-put : goal.returns-in-Ok-clause-put
+returns-in-Ok-clause-put c = rw (sym (printed_is (goal.at.returns-in-Ok-clause-put c).After-lent-held)) c.list-length-in-Ok.ensures

@@ -1,20 +1,21 @@
 -- `jump_at` meets its contract: the arithmetic of the gaps beside the knot, which the test takes too.
 -- Assumes nothing.
 use mathlib.Core.Path.{◌≡◌, sym, ◌∙◌, ap, subst}
-use Prim.Native.Nat.{ℕ, ◌+◌, ◌-◌, ◌≤◌, ◌<◌, ◌^◌, min}
+use Prim.Native.Nat.{ℕ, ◌+◌, ◌-◌, ◌≤◌, ◌^◌, min}
 use native.Mathlib.Omega.{arith}
-use borrow.Author.Rules.{rules}
 use lib.IntN.{ℤ, pos, nat_abs}
 use lib.ListN.{length}
 use mir.Syntax.{w64}
 use mir.Val.{to_z, of_z}
 use mir.Facts.{to_z-of_z, to_z_pos}
+use Rattle.whole.proofs.Order.{abs_neg}
+use Rattle.whole.proofs.Linear.{abs_fits}
 use Rattle.curve.specs.Card.{back}
 use Rattle.gaps.specs.declared.Knot.{Knot}
 use Rattle.minutes.specs.Gaps.{left_gap, right_gap}
 use Rattle.jumps.specs.declared.Order.{Order}
 use Rattle.jumps.specs.Sides.{jump_of, leeways}
-use Rattle.jumps.specs.Limits.{Beside, Allowed, Tried}
+use Rattle.jumps.specs.Limits.{Beside, Allowed}
 use Rattle.jumps.proofs.Comparing.{h_gap, q_gap, jump_fits}
 use Rattle.lists.specs.Lists.{numbers_at, square_of}
 use Rattle.lists.proofs.Settled.{settled_knot, jump_there, allowed_there}
@@ -52,34 +53,32 @@ abbrev start : After-right_gap-h → Start
 start c = (goal.at.After-right_gap-h c).Start
 
 abbrev numbers : Start → ℕ → Knot
-numbers c = numbers_at c.args.ys.now c.args.ms.now c.args.cs.now
+numbers c = numbers_at c.args.lists.ordinates.now c.args.lists.slopes.now c.args.lists.curvatures.now
 
 abbrev after : Start → ℕ
-after c = min (c.args.i + 1) (length c.args.xs.now - 1)
+after c = min (c.args.i + 1) (length c.args.lists.minutes.now - 1)
 
 handed : (c : After-right_gap-h) →
     (let d = start c in
-    Handed (to_z w64 c.left_gap-q.result) (to_z w64 c.right_gap-h.result) (pos (left_gap d.args.xs.now d.args.i)) (pos (right_gap d.args.xs.now d.args.i))
-    c.knot_at-before.result c.knot_at-here.result c.knot_at-after.result
+    Handed (to_z w64 c.left_gap-q.result) (to_z w64 c.right_gap-h.result) (pos (left_gap d.args.lists.minutes.now d.args.i)) (pos (right_gap d.args.lists.minutes.now d.args.i))
+    c.knot-before.result c.knot-here.result c.knot-after.result
     (numbers d (back d.args.i)) (numbers d d.args.i) (numbers d (after d)))
 handed c =
     record {
       q_is = to_z_pos w64 (omega (arith, c.left_gap-q.type_inv)) ∙ ap pos c.left_gap-q.ensures;
       h_is = to_z_pos w64 (omega (arith, c.right_gap-h.type_inv)) ∙ ap pos c.right_gap-h.ensures;
-      before_is = c.knot_at-before.ensures ∙ ap (numbers (start c)) c.back.ensures;
-      here_is = c.knot_at-here.ensures;
-      after_is = c.knot_at-after.ensures ∙ ap (numbers (start c)) c.on.ensures;
+      before_is = c.knot-before.ensures ∙ ap (numbers (start c)) c.back.ensures;
+      here_is = c.knot-here.ensures;
+      after_is = c.knot-after.ensures ∙ ap (numbers (start c)) c.on.ensures;
     }
 
-beside : (c : Start) → Beside (pos (left_gap c.args.xs.now c.args.i)) (pos (right_gap c.args.xs.now c.args.i)) (numbers c (back c.args.i)) (numbers c c.args.i) (numbers c (after c))
-beside c = (settled_knot c.requires.checked c.args.i c.requires.i_in_bounds 0 (omega arith)).beside
+beside : (c : Start) → Beside (pos (left_gap c.args.lists.minutes.now c.args.i)) (pos (right_gap c.args.lists.minutes.now c.args.i)) (numbers c (back c.args.i)) (numbers c c.args.i) (numbers c (after c))
+beside c = (settled_knot c.args.lists.checked c.args.i c.requires 0 (omega arith)).beside
 
-pub knot_at-before-requires : goal.knot_at-before-requires
-knot_at-before-requires c =
-    let d = (goal.at.knot_at-before-requires c).Start in
-    let l = d.requires.checked.long in
-    let b : c.back.result ≤ d.args.i = subst (λ j. j ≤ d.args.i) (sym c.back.ensures) (back_below d.args.i) in
-    (omega (arith, d.requires.i_in_bounds, l.ordinates), omega (arith, d.requires.i_in_bounds, l.slopes), omega (arith, d.requires.i_in_bounds, l.curvatures))
+pub knot-before-requires : goal.knot-before-requires
+knot-before-requires c =
+    let b : c.back.result ≤ c.args.i = subst (λ j. j ≤ c.args.i) (sym c.back.ensures) (back_below c.args.i) in
+    omega (arith, b, c.requires)
 
 pub jump-requires : goal.jump-requires
 jump-requires c = beside_same (handed c) (beside (start c))
@@ -89,11 +88,11 @@ jump-requires c = beside_same (handed c) (beside (start c))
 jump_is : (c : After-jump) → to_z w64 (of_z w64 c.jump.result) ≡ c.jump.result
 jump_is c = to_z-of_z {w = w64} {z = c.jump.result} (record { sfits = c.jump.type_inv })
 
-pub size-requires : goal.size-requires
-size-requires c =
-    let g = (goal.at.size-requires c).After-right_gap-h in
+pub abs-requires : goal.abs-requires
+abs-requires c =
+    let g = (goal.at.abs-requires c).After-right_gap-h in
     let o = (start g).args.order in
-    rw (jump_is c, c.jump.ensures, jump_same (handed g) o) (jump_fits (beside (start g)) o)
+    rw (jump_is c) (abs_fits (rw (abs_neg, c.jump.ensures, jump_same (handed g) o) (jump_fits (beside (start g)) o)))
 
 squares_is : (c : After-squares) → to_z w64 (of_z w64 c.squares.result) ≡ (let a = (start (goal.at.After-squares c).After-right_gap-h).args in pos (square_of a.kind a.order))
 squares_is c = to_z-of_z {w = w64} {z = c.squares.result} (record { sfits = c.squares.type_inv }) ∙ c.squares.ensures.0
@@ -109,18 +108,18 @@ returns c left right =
     let g = (goal.at.returns c).After-right_gap-h in
     let a = (start g).args in
     let k = (start g).requires in
-    let size = c.size in
+    let size = c.abs in
     λ j.
     record {
       size =
           (to_z-of_z {w = w64} {z = size.result} (record { sfits = size.type_inv })
-          ∙ size.ensures
+          ∙ size.ensures.value
           ∙ ap (λ z. pos (nat_abs z))
           (jump_is (goal.at.returns c).After-jump ∙ c.jump.ensures ∙ jump_same (handed g) a.order
-          ∙ sym (jump_there a.kind a.order left right a.xs.now a.ys.now a.ms.now a.cs.now a.i k.checked k.i_in_bounds))) j;
+          ∙ sym (jump_there a.kind a.order left right a.lists.minutes.now a.lists.ordinates.now a.lists.slopes.now a.lists.curvatures.now a.i a.lists.checked k))) j;
       allowance =
           (to_z-of_z {w = w64} {z = c.allowance.result} (record { sfits = c.allowance.type_inv })
           ∙ c.allowance.ensures
           ∙ leeways_same (handed g) a.order (squares_is (goal.at.returns c).After-squares)
-          ∙ sym (allowed_there a.kind a.order left right a.xs.now a.ys.now a.ms.now a.cs.now a.i)) j;
+          ∙ sym (allowed_there a.kind a.order left right a.lists.minutes.now a.lists.ordinates.now a.lists.slopes.now a.lists.curvatures.now a.i)) j;
     }

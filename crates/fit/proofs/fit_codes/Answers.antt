@@ -7,11 +7,7 @@ use Rattle.knots.specs.Kinds.{kind_of}
 use Rattle.knots.proofs.Carried.{quintic_is}
 use Rattle.fit.specs.Fit.{fit_of}
 use Rattle.fit.proofs.Fitting.{fits_along}
-use borrow.Author.Rules.{rules}
 use Rattle.fit.proofs.fit_codes.Goals as goal
-
-pub quintic-requires : goal.quintic-requires
-quintic-requires c = search rules
 
 pub returns : goal.returns
 returns c =
@@ -26,6 +22,7 @@ returns c =
     c.codes-named.ensures
     ∙ ap (λ k. codes (kind_of k) s.left s.right) c.quintic.ensures
     ∙ ap (λ K. codes K s.left s.right) quintic_is in
-    fits_along
+    rw c.into.ensures
+    (fits_along
     (ap (fit_of xs ys from.result to.result ms Ms) named ∙ ap₂ (λ l r. fit_of xs ys l r ms Ms (codes quintic s.left s.right)) from.ensures to.ensures)
-    c.fit_into.ensures
+    c.fit_into.ensures)

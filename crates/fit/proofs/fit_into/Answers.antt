@@ -1,19 +1,15 @@
 -- `fit::fit_into` meets its contract. Assumes nothing.
+use Rattle.std.proofs.Common.{refl, ◌∙◌}
 use Rattle.answer.proofs.Chain.{step_accepts, step_refuses, step_passes}
-use mathlib.Core.Path.{refl, ◌∙◌}
-use Rattle.fit.proofs.Fitting.{fits_along, fits_refused}
+use Rattle.fit.proofs.Fitting.{fits_along, fits_exit}
 use Rattle.fit.proofs.Order.{in_groups, sized_alike}
-use borrow.Author.Rules.{rules}
 use Rattle.fit.proofs.fit_into.Goals as goal
-use Rattle.fit.proofs.fit_into.Goals.{After-sized-sized}
 
-pub stand_and_solve-requires : goal.stand_and_solve-requires
-stand_and_solve-requires c = sized_alike _ _ _ _ _ (step_accepts c.sized-sized.ensures c.in-Accepted.is)
+pub returns-in_err-sized : goal.returns-in_err-sized
+returns-in_err-sized c = fits_exit _ _ c.from_residual.ensures.1 (step_refuses _ c.sized.ensures c.in_err-sized.was ∙ in_groups _ _ _ _ _ _ _)
 
-pub returns-in-Accepted : goal.returns-in-Accepted
-returns-in-Accepted c =
-    let s = (goal.at.returns-in-Accepted c).After-sized-sized in
-    fits_along (step_passes _ s.sized-sized.ensures c.in-Accepted.is refl ∙ in_groups _ _ _ _ _ _ _) c.stand_and_solve.ensures
+pub fit_alike-requires : goal.fit_alike-requires
+fit_alike-requires c = sized_alike _ _ _ _ _ (step_accepts c.sized.ensures c.in_ok-sized.was)
 
-pub returns-in-Refused : goal.returns-in-Refused
-returns-in-Refused c = fits_along (step_refuses _ c.sized-sized.ensures c.in-Refused.is ∙ in_groups _ _ _ _ _ _ _) fits_refused
+pub returns : goal.returns
+returns c = fits_along (step_passes _ c.sized.ensures c.in_ok-sized.was refl ∙ in_groups _ _ _ _ _ _ _) c.fit_alike.ensures

@@ -1,6 +1,6 @@
 -- `preheat::bent` meets its contract.
 -- Assumes nothing.
-use mathlib.Core.List.{List, [], ◌∷◌}
+use mathlib.Core.List.{[], ◌∷◌}
 use Prim.Native.Nat.{◌*◌}
 use mir.Syntax.{w64}
 use Rattle.whole.proofs.Solve.{◌:-◌, ◌:*◌, v0 as x, v1 as w, v2 as w', v3 as z, v4 as z'}

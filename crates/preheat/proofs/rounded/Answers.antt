@@ -3,19 +3,19 @@
 -- ---- the numbers of the evaluation, and their sizes
 use mathlib.Core.Path.{◌≡◌, refl, sym, ◌∙◌, ap, subst}
 use mathlib.Core.List.{List, [], ◌∷◌}
-use Prim.Native.Nat.{ℕ, ◌+◌, ◌*◌, ◌^◌, ◌≤◌, ◌<◌}
+use Prim.Native.Nat.{ℕ, ◌*◌, ◌^◌, ◌≤◌, ◌<◌}
 use native.Mathlib.Nat.{le_trans, mul-le-mul, mul-le-mul_left}
 use native.Mathlib.Omega.{arith}
 use lib.Dec.{T}
 use lib.IntN.{ℤ, pos, neg_ℤ, nat_abs, ◌-ℤ◌, ◌*ℤ◌}
-use lib.Signed.{◌≤ℤ◌, non_neg, yes_non_neg}
+use lib.Signed.{non_neg, yes_non_neg}
 use mir.Syntax.{w64}
 use mir.Val.{Fits, to_z, of_z}
 use mir.Facts.{to_z-of_z}
 use Rattle.whole.specs.Whole.{nearest}
 use Rattle.whole.proofs.Order.{linear, abs_le, abs_mul}
 use Rattle.whole.proofs.Solve.{E, ◌:+◌, ◌:-◌, ◌:*◌, v0, v1, v2, v3, v4, v5, v6, v7}
-use Rattle.whole.proofs.Interval.{Iv, ◌∈◌, ◌to◌, ±, ∈_abs, Within, at_least, at_most}
+use Rattle.whole.proofs.Interval.{◌to◌, ±, ∈_abs, Within, at_least, at_most}
 use Rattle.whole.proofs.Linear as Linear
 use Rattle.whole.proofs.Machine.{held, In, step, asks, gives}
 use Rattle.whole.proofs.Rounding.{nearest_most}

@@ -2,10 +2,9 @@
 -- Assumes nothing.
 use mathlib.Core.Path.{◌≡◌, ◌∙◌, ap}
 use mathlib.Core.List.{List, [], ◌∷◌}
-use Prim.Native.Nat.{ℕ, suc, ◌+◌, ◌-◌, ◌*◌, ◌≤◌, ◌<◌}
+use Prim.Native.Nat.{ℕ, suc, ◌-◌, ◌*◌, ◌≤◌}
 use native.Mathlib.Numerals.{add-one}
 use native.Mathlib.Omega.{arith}
-use borrow.Author.Rules.{rules}
 use lib.IntN.{ℤ, pos, nat_abs, ◌*ℤ◌}
 use lib.ListN.{length}
 use mir.Syntax.{w64}
@@ -14,7 +13,7 @@ use Rattle.whole.specs.Whole.{nearest}
 use Rattle.whole.proofs.Order.{ℕ_le}
 use Rattle.whole.proofs.Solve.{E, v0, v1, v2, v3, v4, v5, v6}
 use Rattle.whole.proofs.Interval.{◌∈◌, ◌to◌, ±, ∈_abs, fits_∈}
-use Rattle.whole.proofs.Machine.{held, In, step, asks, gives}
+use Rattle.whole.proofs.Machine.{held, In, asks, gives}
 use Rattle.curve.specs.Formula.{worth}
 use Rattle.curve.specs.Kind.{quintic}
 use Rattle.cubic.specs.Cubic.{y, scale, unknown, largest}

@@ -1,6 +1,6 @@
 -- `preheat::weight` meets its contract.
 -- Assumes nothing.
-use mathlib.Core.List.{List, [], ◌∷◌}
+use mathlib.Core.List.{[], ◌∷◌}
 use mir.Syntax.{w64}
 use Rattle.whole.proofs.Solve.{◌:-◌, ◌:*◌, v0 as q, v1 as r}
 use Rattle.whole.proofs.Interval.{±, ∈_abs}

@@ -1,44 +1,53 @@
 -- `reply::mend` meets its contract, by what the reading of the text and the gathering of its knots answer. Assumes nothing.
 use Prim.Native.Nat.{◌≤◌}
-use mathlib.Core.Path.{◌≡◌, refl, ◌∙◌}
+use mathlib.Core.Path.{◌≡◌, refl, sym, ◌∙◌}
 use mathlib.Core.Bool.{true}
 use native.Mathlib.Omega.{arith}
 use borrow.Author.Rules.{rules}
-use Rattle.text.specs.Sheet.{most}
-use Rattle.text.proofs.Room.{roomy as sheet-roomy}
-use Rattle.reply.specs.Mending.{mend_reply}
+use Rattle.std.specs.Prelude.{Ok}
+use Rattle.text.specs.Sheet.{most, sheet}
+use Rattle.text.proofs.Room.{Roomy as SheetRoomy, roomy as sheet-roomy}
+use Rattle.reply.specs.Mending.{mend_reply, lines_of}
 use Rattle.reply.proofs.Gathers.{Roomy, roomy}
 use Rattle.reply.proofs.Lists.{minutes_hold, ordinates_hold, faults_hold, as_many_minutes, as_many_ordinates, as_many_faults, as_many_zeros, few_minutes, one_length}
 use Rattle.reply.proofs.Replies.{answers_as, replies_wrong, replies_log, replies_knots, plans_nothing, plans_log, plans_knots}
 use Rattle.reply.proofs.mend.Goals as goal
-use Rattle.reply.proofs.mend.Goals.{After-gathered-all, Start}
+use Rattle.reply.proofs.mend.Goals.{After-gathered-all, In-Ok}
 
-few : (c : Start) → c.args.sheet.knots ≤ most
-few c = rw c.requires.0 (sheet-roomy true c.args.text.now).few
+read : (c : In-Ok) → sheet true c.args.text.now ≡ Ok c.in-Ok.sheet
+read c = sym c.requires.0 ∙ c.in-Ok.is
+
+roomy_sheet : (c : In-Ok) → SheetRoomy c.in-Ok.sheet
+roomy_sheet c = rw (read c) at (sheet-roomy true c.args.text.now)
 
 room : (c : After-gathered-all) → Roomy c.gathered-all.result
-room c = rw c.gathered-all.ensures (roomy _ _ (few (goal.at.After-gathered-all c).Start))
+room c = rw c.gathered-all.ensures (roomy _ _ (roomy_sheet (goal.at.After-gathered-all c).In-Ok).few)
 
-pub returns-then-sheet-ne0 : goal.returns-then-sheet-ne0
-returns-then-sheet-ne0 c =
-    let s = (goal.at.returns-then-sheet-ne0 c).Start in
-    let wrong = c.if-sheet-ne0.true in
+its_lines : (c : In-Ok) → c.in-Ok.sheet.lines ≡ lines_of c.args.sheet
+unfolding lines_of
+its_lines c = rw c.in-Ok.is
+
+pub returns-in-Err : goal.returns-in-Err
+unfolding lines_of
+returns-in-Err c =
+    let e = sym c.requires.0 ∙ c.in-Err.is in
     record {
-      answers = replies_wrong true (λ a. mend_reply) s.args.text.now _ s.requires.0 s.args.card.now wrong c.complain-answered.ensures;
-      changes = c.unchanged-plan.ensures ∙ plans_nothing s.args.text.now _ s.requires.0 wrong;
-      lines = refl;
+      answers = replies_wrong (λ a. mend_reply) c.args.text.now _ c.args.card.now e c.complain.ensures;
+      changes = c.unchanged.ensures ∙ plans_nothing _ e;
+      lines = rw c.in-Err.is;
     }
+
+pub gathered-all-requires : goal.gathered-all-requires
+gathered-all-requires c = (roomy_sheet (goal.at.gathered-all-requires c).In-Ok).few
 
 pub returns-then-all-ne0 : goal.returns-then-all-ne0
 returns-then-all-ne0 c =
-    let s = (goal.at.returns-then-all-ne0 c).Start in
-    let z : s.args.sheet.wrong ≡ 0 = omega (arith, c.if-sheet-ne0.false) in
-    let all = c.gathered-all.ensures in
-    let refused = c.if-all-ne0.true in
+    let g = (goal.at.returns-then-all-ne0 c).After-gathered-all in
+    let o = (goal.at.After-gathered-all g).In-Ok in
     record {
-      answers = replies_log true (λ a. mend_reply) s.args.text.now _ s.requires.0 s.args.card.now z all refused c.refuse_knots-answered.ensures;
-      changes = c.unchanged-plan-then-all-ne0.ensures ∙ plans_log s.args.text.now _ s.requires.0 z all refused;
-      lines = refl;
+      answers = replies_log (λ a. mend_reply) g.args.text.now _ g.args.card.now (read o) g.gathered-all.ensures c.if-all-ne0.true c.refuse_knots.ensures;
+      changes = c.unchanged-then-all-ne0.ensures ∙ plans_log _ (read o) g.gathered-all.ensures c.if-all-ne0.true;
+      lines = its_lines o;
     }
 
 pub slice_bounds-minutes-end : goal.slice_bounds-minutes-end
@@ -78,15 +87,11 @@ mend_lists-requires c =
 pub returns : goal.returns
 returns c =
     let g = (goal.at.returns c).After-gathered-all in
-    let s = (goal.at.After-gathered-all g).Start in
-    let z : s.args.sheet.wrong ≡ 0 = omega (arith, g.if-sheet-ne0.false) in
+    let o = (goal.at.After-gathered-all g).In-Ok in
     let accepted : g.gathered-all.result.number ≡ 0 = omega (arith, c.if-all-ne0.false) in
     let m = c.mend_lists.ensures in
     record {
-      answers = answers_as (replies_knots true (λ a. mend_reply) s.args.text.now _ s.requires.0 s.args.card.now z g.gathered-all.ensures accepted) m.answers;
-      changes = m.changes ∙ plans_knots s.args.text.now _ s.requires.0 z g.gathered-all.ensures accepted;
-      lines = m.lines;
+      answers = answers_as (replies_knots (λ a. mend_reply) g.args.text.now _ g.args.card.now (read o) g.gathered-all.ensures accepted) m.answers;
+      changes = m.changes ∙ plans_knots _ (read o) g.gathered-all.ensures accepted;
+      lines = m.lines ∙ its_lines o;
     }
-
-pub gathered-all-requires : goal.gathered-all-requires
-gathered-all-requires c = few (goal.at.gathered-all-requires c).Start

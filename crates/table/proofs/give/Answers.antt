@@ -1,53 +1,53 @@
--- `table::give` meets its contract: the lists are the fronts of the arrays.
+-- `table::give` meets its contract: the lists are the card's.
 -- Assumes nothing.
-use mathlib.Core.Path.{sym}
-use Prim.Native.Nat.{◌≤◌}
-use native.Mathlib.Omega.{arith}
-use lib.Seq.{length-take-le}
+use Rattle.std.proofs.Common.{ℕ, ℤ, List, ◌≡◌, ◌+◌, ◌≤◌, ap, subst, arith, length}
+use Rattle.answer.specs.Answer.{accepted}
 use Rattle.curve.specs.Kind.{quintic}
-use Rattle.curve.specs.Card.{knots, knot}
+use Rattle.curve.specs.Card.{Card, knots, knot}
 use Rattle.curve.specs.Reading.{reads_at, spell}
 use Rattle.curve.specs.Orders.{reading_order}
 use Rattle.curve.proofs.Gap.{in_card}
+use Rattle.knots.specs.Lent.{lent}
+use Rattle.lists.specs.declared.CardReading.{CardReading}
 use Rattle.lists.specs.Lists.{answer_at}
 use Rattle.decode.specs.Decoded.{decoded}
 use Rattle.table.specs.Table.{minutes_left, count}
-use borrow.Author.Rules.{rules}
+use Rattle.table.specs.Promise.{Columns, Given}
 use Rattle.table.proofs.give.Goals as goal
-use Rattle.table.proofs.give.Goals.{Start}
+use Rattle.table.proofs.give.Goals.{After-lists-lists}
 
-pub slice_bounds-count-end : goal.slice_bounds-count-end
-slice_bounds-count-end c = sym (length-take-le _ _ c.requires.readable.full.minutes)
+minutes_are : (c : After-lists-lists) → c.lists-lists.result.minutes.now ≡ (decoded c.args.card.now).minutes
+minutes_are c = ap (λ (k : Card). k.minutes) c.lists-lists.ensures
 
-few : (c : Start) → 3 ≤ knots (decoded c.args.card)
-unfolding quintic
-few c = c.requires.readable.some
+few : (c : After-lists-lists) → 3 ≤ length c.lists-lists.result.minutes.now
+unfolding knots quintic
+few c = rw (minutes_are c) c.requires.readable.some
 
 pub count-count-requires : goal.count-count-requires
-unfolding decoded knots
 count-count-requires c =
-    let s = (goal.at.count-count-requires c).Start in record { xs_nonzero = omega (arith, few s); from_bound = (in_card _ _ s.requires.from_value).1 }
-
-pub slice_bounds-fill-end : goal.slice_bounds-fill-end
-slice_bounds-fill-end c = sym (length-take-le _ _ c.requires.readable.full.minutes)
-
-pub slice_bounds-fill-end-2 : goal.slice_bounds-fill-end-2
-slice_bounds-fill-end-2 c = sym (length-take-le _ _ c.requires.readable.full.ordinates)
-
-pub slice_bounds-fill-end-3 : goal.slice_bounds-fill-end-3
-slice_bounds-fill-end-3 c = sym (length-take-le _ _ c.requires.readable.full.slopes)
-
-pub slice_bounds-fill-end-4 : goal.slice_bounds-fill-end-4
-slice_bounds-fill-end-4 c = sym (length-take-le _ _ c.requires.readable.full.curvatures)
+    let l = (goal.at.count-count-requires c).After-lists-lists in
+    record { xs_nonzero = omega (arith, few l); from_bound = rw (minutes_are l) (in_card _ _ c.requires.from_value).1 }
 
 pub fill-requires : goal.fill-requires
-unfolding decoded knots count minutes_left
+unfolding count minutes_left
 fill-requires c =
-    let s = (goal.at.fill-requires c).Start in
+    let l = (goal.at.fill-requires c).After-lists-lists in
     let n = c.count-count.ensures in
-    let inside = in_card _ _ s.requires.from_value in record { checked = s.requires.readable.checked; in_bounds = (omega (arith, few s), inside.0, omega (arith, n.0, inside.1)); count_in_bounds = (omega (arith, n.0), omega (arith, n.0), omega (arith, n.0)) }
+    let inside = rw (← minutes_are l) at (in_card _ _ c.requires.from_value) in
+    record { in_bounds = (omega (arith, few l), inside.0, omega (arith, n.0, inside.1)); count_in_bounds = (omega (arith, n.0), omega (arith, n.0), omega (arith, n.0)) }
+
+-- a reading asks nothing of the codes
+read_alike : {xs : List ℕ} {ys ms cs : List ℤ} {left right : ℕ} {card : Card} → lent xs ys ms cs left right ≡ card → (m : ℕ) → answer_at accepted (lent xs ys ms cs 0 0) m ≡ answer_at accepted card m
+unfolding answer_at reading_order reads_at spell knot
+read_alike e m = ap (λ k. answer_at accepted k m) e
+
+given_alike : {f g : ℕ → CardReading} {n : ℕ} {l l' : Columns} → ((i : ℕ) → f i ≡ g i) → Given f n l l' → Given g n l l'
+given_alike {f} {g} {n} {l} {l'} e h = subst (λ f. Given f n l l') (λ j i. e i j) h
 
 pub returns : goal.returns
-unfolding decoded answer_at reading_order reads_at spell knot
 returns c =
-    record { value = c.count-count.ensures; given = c.fill.ensures }
+    let l = (goal.at.returns c).After-lists-lists in
+    record {
+      value = rw (minutes_are l) at c.count-count.ensures;
+      given = given_alike (λ i. read_alike c.lists-lists.ensures (c.args.from + i)) c.fill.ensures;
+    }

@@ -9,9 +9,8 @@ use Rattle.decode.specs.Decoded.{Holds}
 use Rattle.opened.proofs.Opening.{accepted_holds, accepted_readable}
 use Rattle.table.specs.Promise.{Columns, columns, table_verdict}
 use Rattle.table.proofs.Tables.{table_verdict_is, Taken, took, tables_refused, tables_given}
-use borrow.Author.Rules.{rules}
 use Rattle.table.proofs.table.Goals as goal
-use Rattle.table.proofs.table.Goals.{After-judged, In-Accepted}
+use Rattle.table.proofs.table.Goals.{After-judged, In-Ok}
 
 abbrev bytes : After-judged → List ℕ
 bytes c = c.args.card.now
@@ -27,23 +26,23 @@ judged-requires c e =
     let o = c.by_head-opened.ensures in
     accepted_readable o (sym o.judged ∙ e)
 
-accepts : (c : In-Accepted) → (let j = (goal.at.In-Accepted c).After-judged in Taken (lent j) (bytes j) j.args.from)
-accepts c = let j = (goal.at.In-Accepted c).After-judged in took (lent j) (bytes j) _ (step_accepts (verdict_is j) c.in-Accepted.is)
+accepts : (c : In-Ok) → (let j = (goal.at.In-Ok c).After-judged in Taken (lent j) (bytes j) j.args.from)
+accepts c = let j = (goal.at.In-Ok c).After-judged in took (lent j) (bytes j) _ (step_accepts (verdict_is j) c.in-Ok.is)
 
-holds : (c : In-Accepted) → (let j = (goal.at.In-Accepted c).After-judged in Holds j.by_head-opened.result.card (bytes j))
+holds : (c : In-Ok) → (let j = (goal.at.In-Ok c).After-judged in Holds j.by_head-opened.result.card (bytes j))
 holds c = accepted_holds c.by_head-opened.ensures (accepts c).own
 
 pub give-count-requires : goal.give-count-requires
 give-count-requires c =
-    let e = (goal.at.give-count-requires c).In-Accepted in
+    let e = (goal.at.give-count-requires c).In-Ok in
     let t = accepts e in record { readable = accepted_readable e.by_head-opened.ensures t.own; from_value = rw (holds e).is t.inside; slopes_len = (t.slopes, t.curvatures) }
 
-pub returns-in-Refused : goal.returns-in-Refused
-returns-in-Refused c = let j = (goal.at.returns-in-Refused c).After-judged in tables_refused (lent j) (bytes j) _ (step_refused (verdict_is j) c.in-Refused.is)
+pub returns-in-Err : goal.returns-in-Err
+returns-in-Err c = let j = (goal.at.returns-in-Err c).After-judged in tables_refused (lent j) (bytes j) _ (step_refused (verdict_is j) c.in-Err.is) (c.from.ensures _)
 
-pub returns-in-Accepted : goal.returns-in-Accepted
-returns-in-Accepted c =
-    let e = (goal.at.returns-in-Accepted c).In-Accepted in
-    let j = (goal.at.In-Accepted e).After-judged in
+pub returns-in-Ok : goal.returns-in-Ok
+returns-in-Ok c =
+    let e = (goal.at.returns-in-Ok c).In-Ok in
+    let j = (goal.at.In-Ok e).After-judged in
     let g = c.give-count.ensures in
-    tables_given (lent j) (bytes j) _ (step_accepts (verdict_is j) e.in-Accepted.is) (holds e) g.value.0 g.given
+    tables_given (lent j) (bytes j) _ (step_accepts (verdict_is j) e.in-Ok.is) (holds e) g.value.0 g.given

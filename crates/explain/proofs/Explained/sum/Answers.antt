@@ -4,6 +4,7 @@ use mathlib.Core.List.{List, [], ◌∷◌}
 use Prim.Native.Nat.{◌+◌, ◌≤◌, ◌<◌, ◌^◌}
 use native.Mathlib.Omega.{arith}
 use lib.IntN.{ℤ, nat_abs, ◌+ℤ◌}
+use borrow.Author.Rules.{rules}
 use mir.Syntax.{w64}
 use Rattle.whole.proofs.Order.{abs_add}
 use Rattle.whole.proofs.Linear.{abs_fits}
@@ -12,7 +13,7 @@ use Rattle.whole.proofs.Machine.{Src, held, Ok, does, gave}
 use Rattle.explain.specs.declared.Explained.{Explained}
 use Rattle.explain.specs.Explain.{sum, sizes}
 use Rattle.explain.proofs.Explained.sum.Goals as goal
-use Rattle.explain.proofs.Explained.sum.Goals.{After-struct_told-6-1}
+use Rattle.explain.proofs.Explained.sum.Goals.{Start}
 
 -- so many of the parts together
 abbrev two : E
@@ -30,13 +31,13 @@ five = four :+ k
 abbrev six : E
 six = five :+ k1
 
-abbrev self : After-struct_told-6-1 → Explained
+abbrev self : Start → Explained
 self c = c.args.self
 
-abbrev args : After-struct_told-6-1 → List Src
+abbrev args : Start → List Src
 args c = let a = self c in held a.ordinate ∷ held a.ordinate1 ∷ held a.slope ∷ held a.slope1 ∷ held a.curvature ∷ held a.curvature1 ∷ []
 
-module _ (c : After-struct_told-6-1) where
+module _ (c : Start) where
   abbrev a : Explained
   a = self c
 
@@ -73,41 +74,36 @@ module _ (c : After-struct_told-6-1) where
 
   all : Ok w64 (args c) six
   all =
-      let f = c.struct_told-6-1.given in
-      let n = f.1.1.1.1 in
       record {
         left = record {
           left = record {
             left = record {
-              left = record { left = record { sfits = n.0.1 }; right = record { sfits = n.1.0.1 }; fits = abs_fits (omega (arith, total, p2)) };
-              right = record { sfits = n.1.1.0.1 };
+              left = record { left = search rules; right = search rules; fits = abs_fits (omega (arith, total, p2)) };
+              right = search rules;
               fits = abs_fits (omega (arith, total, p2, p3));
             };
-            right = record { sfits = n.1.1.1.0.1 };
+            right = search rules;
             fits = abs_fits (omega (arith, total, p2, p3, p4));
           };
-          right = record { sfits = n.1.1.1.1.0.1 };
+          right = search rules;
           fits = abs_fits (omega (arith, total, p2, p3, p4, p5));
         };
-        right = record { sfits = n.1.1.1.1.1.0.1 };
+        right = search rules;
         fits = abs_fits (omega (arith, total, p2, p3, p4, p5, p6));
       }
 
 pub returns : goal.returns
 unfolding sum
-returns c = gave w64 (args c) six (all c)
-
-pub overflow_add-result : goal.overflow_add-result
-overflow_add-result c = does w64 (args c) two (all c).left.left.left.left
+returns c = let s = (goal.at.returns c).Start in gave w64 (args s) six (all s)
 
 pub overflow_add-result-2 : goal.overflow_add-result-2
-overflow_add-result-2 c = does w64 (args c) three (all c).left.left.left
+overflow_add-result-2 c = let s = (goal.at.overflow_add-result-2 c).Start in does w64 (args s) three (all s).left.left.left
 
 pub overflow_add-result-3 : goal.overflow_add-result-3
-overflow_add-result-3 c = does w64 (args c) four (all c).left.left
+overflow_add-result-3 c = let s = (goal.at.overflow_add-result-3 c).Start in does w64 (args s) four (all s).left.left
 
 pub overflow_add-result-4 : goal.overflow_add-result-4
-overflow_add-result-4 c = does w64 (args c) five (all c).left
+overflow_add-result-4 c = let s = (goal.at.overflow_add-result-4 c).Start in does w64 (args s) five (all s).left
 
 pub overflow_add-result-5 : goal.overflow_add-result-5
-overflow_add-result-5 c = does w64 (args c) six (all c)
+overflow_add-result-5 c = let s = (goal.at.overflow_add-result-5 c).Start in does w64 (args s) six (all s)

@@ -1,0 +1,38 @@
+-- `fit::work_out` meets its contract. Assumes nothing.
+use Rattle.std.proofs.Common.{◌≡◌, length, ◌∙◌, refl, rules, arith}
+use Rattle.std.proofs.lemmas.Result.{err_from_is_err_and}
+use Rattle.answer.proofs.Chain.{step_refuses, step_passes}
+use Rattle.knots.proofs.Accepted.{stood}
+use Rattle.passes.specs.Sheet.{most}
+use Rattle.fit.specs.Fit.{tested}
+use Rattle.fit.specs.Jobs.{kind_by, card_with, worked}
+use Rattle.fit.proofs.Worked.{refused_8, front_finite, worked_out}
+use Rattle.fit.proofs.work_out.Goals as goal
+use Rattle.fit.proofs.work_out.Goals.{After-scale-numbers}
+
+pub pairs_of-requires-clause-rising : goal.pairs_of-requires-clause-rising
+pairs_of-requires-clause-rising c = (stood c.requires.stand).rising
+
+pub returns-in_err-pairs : goal.returns-in_err-pairs
+returns-in_err-pairs c =
+    let p = err_from_is_err_and c.from_residual.result c.from_residual.ensures.1 in
+    rw (p.1, p.2) (refused_8 _ _ _ _ c.pairs_of.ensures c.in_err-pairs.was)
+
+pub scale-numbers-requires-clause-all_finite : goal.scale-numbers-requires-clause-all_finite
+scale-numbers-requires-clause-all_finite c = front_finite _ _ _ _ c.pairs_of.ensures c.in_ok-pairs.was c.requires.minutes_len_bound.0
+
+out : (c : After-scale-numbers)
+    → (let s = c.args in tested (kind_by s.job) (card_with s.minutes.now s.ordinates.now s.slopes.now s.job c.scale-numbers.result) ≡ worked s.minutes.now s.ordinates.now s.slopes.now s.job)
+out c =
+    let room : length c.in_ok-pairs.pairs ≡ most = search rules in
+    worked_out _ _ _ _ c.pairs_of.ensures c.in_ok-pairs.was (omega (arith, room, c.requires.minutes_len_bound)) c.scale-numbers.ensures
+
+pub returns-in_err-judge : goal.returns-in_err-judge
+unfolding tested
+returns-in_err-judge c =
+    let p = err_from_is_err_and c.from_residual-in_err-judge.result c.from_residual-in_err-judge.ensures.1 in
+    rw (p.1, p.2) (step_refuses _ c.judge.ensures c.in_err-judge.was ∙ out (goal.at.returns-in_err-judge c).After-scale-numbers)
+
+pub returns : goal.returns
+unfolding tested
+returns c = step_passes _ c.judge.ensures c.in_ok-judge.was refl ∙ out (goal.at.returns c).After-scale-numbers
