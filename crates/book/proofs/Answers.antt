@@ -9,7 +9,7 @@ use Rattle.answer.specs.Answer.{Answer, refused, given, accepted, ◌then◌, re
 use Rattle.answer.proofs.Steps.{not_both, given_same, first_accepts, next_accepts, both_accept, refuse_accepts}
 use Rattle.card.specs.Answers.{own}
 use Rattle.book.specs.Book.{Entry, size, most, ◌giving◌, book}
-use Rattle.book.specs.Lookup.{in_use, held, look_up, part, before, rooms, spot_at, spot_of, spot}
+use Rattle.book.specs.Lookup.{in_use, used_of, held, look_up, part, before, rooms, spot_at, spot_of, spot}
 use Rattle.book.specs.Steps.{there, slot, walked_of, walked}
 use lib.Dec.{eqb}
 use borrow.Author.Tests.{eq-eqb, eqb-true, eqb-false}
@@ -95,6 +95,9 @@ told_bytes w = ap (λ b. record { number = 0; place = 0; bytes = b }) w.bytes �
 -- what a `?` returns
 pub exits_found : (r : Result Spot Refusal) (e : Refusal) → IsErrAnd r (λ d. d ≡ e) → spot_of r ≡ spot_at 0 (refused (number_of e.reason) e.place)
 exits_found r e h = let p = err_from_is_err_and r h in rw (p.1, p.2)
+
+pub exits_used : (r : Result Used Refusal) (e : Refusal) → IsErrAnd r (λ d. d ≡ e) → used_of r ≡ in_use (refused (number_of e.reason) e.place)
+exits_used r e h = let p = err_from_is_err_and r h in rw (p.1, p.2)
 
 -- a refusal has no start
 pub spot_refused : (r : ℕ) (s : List ℕ) {n p : ℕ} → look_up r s ≡ refused n p → spot_at 0 (refused n p) ≡ spot r s

@@ -1,7 +1,7 @@
 -- 21 at the limit of a book, computed: a book that a put would make of 16,384 bytes, and of one more, in a
 -- buffer that is longer. Document 02, order 3. Assumes nothing.
 use mathlib.Core.Path.{◌≡◌, refl}
-use mathlib.Core.List.{List, [], ◌∷◌}
+use mathlib.Core.List.{[], ◌∷◌}
 use Prim.Native.Nat.{ℕ}
 use lib.ListN.{replicate}
 use Rattle.answer.specs.Answer.{refused, given, ◌then◌, refuse}

@@ -5,12 +5,13 @@ ghost use Rattle.std.specs.Prelude.{◌≡◌, ◌+◌, ◌≤◌, length};
 ghost use Rattle.std.proofs.lemmas.List.Edits.{sets};
 ghost use Rattle.answer.specs.Answer.{given};
 ghost use Rattle.book.specs.Book.{most, entry_bytes, ◌giving◌, book as the_book};
+ghost use Rattle.book.specs.Lookup.{used_of};
 ghost use Rattle.book.specs.Steps.{walked};
 ghost use Rattle.book_put.specs.Put.{entry, made, put, Puts};
 ghost use Rattle.book_put.specs.Splice.{spliced};
 
-use answer::Judged;
-use book::{Slot, Used, Walked};
+use answer::{Reason, Refusal};
+use book::{Slot, Used};
 
 // A room's record.
 fn put_record(buffer: &mut [u8], at: usize, room: u16, card: &[u8])
@@ -34,43 +35,48 @@ fn splice(buffer: &mut [u8], at: usize, old: usize, used: usize, room: u16, card
     put_record(buffer, at, room, card);
 }
 
+const FULL: Refusal = Refusal {
+    reason: Reason::FullBook,
+    place: 0,
+};
+
 // 21, by the size after the card is put in; then the writing.
-fn put_at(buffer: &mut [u8], slot: Slot, room: u16, card: &[u8]) -> Used
+fn put_at(buffer: &mut [u8], slot: Slot, room: u16, card: &[u8]) -> Result<Used, Refusal>
     requires { walked room buffer.old ≡ given slot }
     ensures { Puts
         (the_book buffer.old giving made (entry room card.now) (length buffer.old))
-        buffer.old buffer.new result }
+        buffer.old buffer.new (used_of result) }
 {
     // so that no sum below can pass a word
     if Used::MOST < card.len() {
-        return Used::refused(21, 0);
+        return Err(FULL);
     }
-    let at = slot.at;
-    let old = slot.size;
-    let bytes = slot.bytes - old + (6 + card.len());
-    if Used::MOST < bytes {
-        return Used::refused(21, 0);
+    let bytes = slot.bytes - slot.size + (6 + card.len());
+    if Used::MOST < bytes || buffer.len() < bytes {
+        return Err(FULL);
     }
-    if buffer.len() < bytes {
-        return Used::refused(21, 0);
-    }
-    splice(buffer, at, old, slot.bytes, room, card);
-    Used {
+    splice(buffer, slot.at, slot.size, slot.bytes, room, card);
+    Ok(Used {
         number: 0,
         place: 0,
         bytes: bytes as u32,
-    }
+    })
 }
 
 // 14, 22, the new card's own, 21. A refusal writes nothing.
+fn placed(buffer: &mut [u8], room: u16, card: &[u8]) -> Result<Used, Refusal>
+    ensures { Puts (put room card.now buffer.old) buffer.old buffer.new (used_of result) }
+{
+    let slot = book::walk(buffer, room)?;
+    book::own(card)?;
+    put_at(buffer, slot, room, card)
+}
+
 pub fn put(buffer: &mut [u8], room: u16, card: &[u8]) -> Used
     ensures { Puts (put room card.now buffer.old) buffer.old buffer.new result }
 {
-    match book::walk(buffer, room) {
-        Walked::Refused(number, place) => Used::refused(number, place),
-        Walked::Sound(slot) => match book::own(card) {
-            Judged::Refused(number, place) => Used::refused(number, place),
-            Judged::Accepted => put_at(buffer, slot, room, card),
-        },
+    match placed(buffer, room, card) {
+        Err(refusal) => Used::from(refusal),
+        Ok(used) => used,
     }
 }

@@ -3,30 +3,33 @@
 #![tactic(auto)]
 
 ghost use Rattle.std.specs.Prelude.{◌≡◌};
+ghost use Rattle.book.specs.Lookup.{used_of};
 ghost use Rattle.book_put.specs.Put.{Puts};
 ghost use Rattle.book_remove.specs.Remove.{remove};
 
-use book::{Used, Walked};
+use answer::{Reason, Refusal};
+use book::Used;
 
 // 14, 22, 20. A refusal writes nothing, and a removal nothing behind the new closing record.
+fn taken(buffer: &mut [u8], room: u16) -> Result<Used, Refusal>
+    ensures { Puts (remove room buffer.old) buffer.old buffer.new (used_of result) }
+{
+    let slot = book::walk(buffer, room)?;
+    answer::refuse(Reason::NoRoom, 0, slot.size == 0)?;
+    let from = slot.at + slot.size;
+    moves::slide(buffer, from, slot.at, slot.bytes - from);
+    Ok(Used {
+        number: 0,
+        place: 0,
+        bytes: (slot.bytes - slot.size) as u32,
+    })
+}
+
 pub fn remove(buffer: &mut [u8], room: u16) -> Used
     ensures { Puts (remove room buffer.old) buffer.old buffer.new result }
 {
-    match book::walk(buffer, room) {
-        Walked::Refused(number, place) => Used::refused(number, place),
-        Walked::Sound(slot) => {
-            let at = slot.at;
-            let size = slot.size;
-            if size == 0 {
-                return Used::refused(20, 0);
-            }
-            let from = at + size;
-            moves::slide(buffer, from, at, slot.bytes - from);
-            Used {
-                number: 0,
-                place: 0,
-                bytes: (slot.bytes - size) as u32,
-            }
-        }
+    match taken(buffer, room) {
+        Err(refusal) => Used::from(refusal),
+        Ok(used) => used,
     }
 }

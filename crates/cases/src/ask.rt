@@ -1,127 +1,205 @@
 // One function for each thing that is asked of the library: what is lent to it, and a line with all of its answer and of what it was lent to write.
 ghost use Rattle.std.specs.Prelude.{◌+◌, ◌≤◌, length};
 
-use crate::print;
+use crate::print::{Bytes, Numbers, Verdict};
+use std::io::{Print, Result};
+use unknowns::Unknown;
 
-fn mean(minute: u16, log: &[u8]) {
+// What a record asks about bytes, or about knots, by its number; `Text` is a text to print.
+#[derive(Clone, Copy)]
+pub(crate) enum Question {
+    Bytes(OfBytes),
+    Knots(OfKnots),
+}
+
+#[derive(Clone, Copy)]
+pub(crate) enum OfBytes {
+    Text,
+    Mean,
+    Reading,
+    Check,
+    Swing,
+    Explain,
+}
+
+#[derive(Clone, Copy)]
+pub(crate) enum OfKnots {
+    Fit,
+    FitCodes,
+    Write,
+    Read,
+    Mend,
+    FitSlopes,
+    WriteSlopes,
+    Preheat,
+    Unknown,
+}
+
+impl From<u16> for Question {
+    fn from(number: u16) -> Question {
+        match number {
+            0 => Question::Bytes(OfBytes::Text),
+            1 => Question::Bytes(OfBytes::Mean),
+            2 => Question::Bytes(OfBytes::Reading),
+            3 => Question::Bytes(OfBytes::Check),
+            4 => Question::Bytes(OfBytes::Swing),
+            5 => Question::Knots(OfKnots::Fit),
+            6 => Question::Knots(OfKnots::FitCodes),
+            7 => Question::Knots(OfKnots::Write),
+            8 => Question::Knots(OfKnots::Read),
+            10 => Question::Knots(OfKnots::FitSlopes),
+            11 => Question::Knots(OfKnots::WriteSlopes),
+            12 => Question::Bytes(OfBytes::Explain),
+            13 => Question::Knots(OfKnots::Preheat),
+            14 => Question::Knots(OfKnots::Unknown),
+            _ => Question::Knots(OfKnots::Mend),
+        }
+    }
+}
+
+// ---- about bytes
+
+fn mean(rt: HostRuntime, minute: u16, log: &[u8]) -> Result<()> {
     let mean = log_mean::mean_of(minute, log);
-    print::verdict(b"mean", mean.number, mean.place);
-    print::counted(b"; minute", mean.minute);
-    print::named(b"; ordinate", mean.ordinate);
-    print::counted(b"; good", mean.good);
-    print::counted(b"; faults", mean.faults);
+    print!(rt;
+        "mean {}; minute {}; ordinate {}; good {}; faults {}",
+        Verdict(mean.number, mean.place),
+        mean.minute,
+        mean.ordinate,
+        mean.good,
+        mean.faults
+    )
 }
 
-fn reading(minute: u16, card: &[u8]) {
+fn reading(rt: HostRuntime, minute: u16, card: &[u8]) -> Result<()> {
     let reading = card::reading(card, minute);
-    print::verdict(b"reading", reading.number, reading.place);
-    print::named(b"; value", reading.value);
-    print::named(b"; slope", reading.slope);
-    print::named(b"; curvature", reading.curvature);
-    print::counted(b"; looks", reading.looks);
+    print!(rt;
+        "reading {}; value {}; slope {}; curvature {}; looks {}",
+        Verdict(reading.number, reading.place),
+        reading.value,
+        reading.slope,
+        reading.curvature,
+        reading.looks
+    )
 }
 
-fn swing(card: &[u8]) {
+fn swing(rt: HostRuntime, card: &[u8]) -> Result<()> {
     let swung = swing::swing(card);
-    print::verdict(b"swing", swung.number, swung.place);
-    print::counted(b"; knot", swung.knot);
-    print::counted(b"; minute", swung.minute);
-    print::counted(b"; below", swung.below);
-    print::counted(b"; above", swung.above);
+    print!(rt;
+        "swing {}; knot {}; minute {}; below {}; above {}",
+        Verdict(swung.number, swung.place),
+        swung.knot,
+        swung.minute,
+        swung.below,
+        swung.above
+    )
 }
 
-fn explain(minute: u16, card: &[u8]) {
-    let explained = explain::explain(card, minute);
-    print::verdict(b"explain", explained.number, explained.place);
-    print::counted(b"; gap", explained.gap);
-    print::counted(b"; minutes", explained.minutes);
-    print::wide(b"; parts", explained.ordinate);
-    print::wide(b"", explained.ordinate1);
-    print::wide(b"", explained.slope);
-    print::wide(b"", explained.slope1);
-    print::wide(b"", explained.curvature);
-    print::wide(b"", explained.curvature1);
-    print::wide(b"; denominator", explained.denominator);
-    print::counted(b"; knot", explained.knot);
-    print::counted(b"; order", explained.order);
-    print::wide(b"; jump", explained.jump);
-    print::wide(b"; allowance", explained.allowance);
+fn explain(rt: HostRuntime, minute: u16, card: &[u8]) -> Result<()> {
+    let told = explain::explain(card, minute);
+    let verdict = Verdict(told.number, told.place);
+    print!(rt;
+        "explain {verdict}; gap {}; minutes {}",
+        told.gap, told.minutes
+    )?;
+    let parts = [
+        told.ordinate,
+        told.ordinate1,
+        told.slope,
+        told.slope1,
+        told.curvature,
+        told.curvature1,
+    ];
+    print!(rt;
+        "; parts{}; denominator {}",
+        Numbers(&parts),
+        told.denominator
+    )?;
+    print!(rt;
+        "; knot {}; order {}; jump {}; allowance {}",
+        told.knot, told.order, told.jump, told.allowance
+    )
 }
 
-fn checked(word: &[u8], checked: card::Checked) {
-    print::verdict(word, checked.number, checked.place);
-    print::counted(b"; knots", checked.knots);
-    print::counted(b"; left", checked.left);
-    print::counted(b"; right", checked.right);
-    print::counted(b"; kind", checked.kind);
+fn checked(rt: HostRuntime, word: &str, checked: card::Checked) -> Result<()> {
+    print!(rt;
+        "{word} {}; knots {}; left {}; right {}; kind {}",
+        Verdict(checked.number, checked.place),
+        checked.knots,
+        checked.left,
+        checked.right,
+        checked.kind
+    )
 }
 
-fn check(card: &[u8]) {
-    checked(b"check", card::check(card));
+pub(crate) fn of_bytes(rt: HostRuntime, asked: OfBytes, minute: u16, list: &[u8]) -> Result<()> {
+    match asked {
+        OfBytes::Text => rt.write_all(list),
+        OfBytes::Mean => mean(rt, minute, list),
+        OfBytes::Reading => reading(rt, minute, list),
+        OfBytes::Check => checked(rt, "check", card::check(list)),
+        OfBytes::Swing => swing(rt, list),
+        OfBytes::Explain => explain(rt, minute, list),
+    }
 }
 
-pub(crate) fn read(
+// ---- about knots
+
+fn print_slopes(rt: HostRuntime, slopes: &[i32], curvatures: &[i32]) -> Result<()> {
+    let slopes = Numbers(slopes);
+    print!(rt; "; slopes{slopes}; curvatures{}", Numbers(curvatures))
+}
+
+fn read(
+    rt: HostRuntime,
     card: &[u8],
     minutes: &mut [u16],
     ordinates: &mut [i16],
     slopes: &mut [i32],
     curvatures: &mut [i32],
-) {
-    checked(
-        b"read",
-        card::read(card, minutes, ordinates, slopes, curvatures),
-    );
-    print::minutes(minutes);
-    print::ordinates(ordinates);
-    print::numbers(b"; slopes", slopes);
-    print::numbers(b"; curvatures", curvatures);
+) -> Result<()> {
+    let answer = card::read(card, minutes, ordinates, slopes, curvatures);
+    checked(rt, "read", answer)?;
+    print!(rt;
+        "; minutes{}; ordinates{}",
+        Numbers(minutes),
+        Numbers(ordinates)
+    )?;
+    print_slopes(rt, slopes, curvatures)
 }
 
-fn written(word: &[u8], written: writer::Written, buffer: &[u8]) {
-    print::verdict(word, written.number, written.place);
-    print::counted(b"; bytes", written.bytes);
-    print::buffer(buffer);
+fn written(rt: HostRuntime, word: &str, written: writer::Written, buffer: &[u8]) -> Result<()> {
+    let verdict = Verdict(written.number, written.place);
+    let bytes = Bytes(buffer);
+    print!(rt; "{word} {verdict}; bytes {}; buffer{bytes}", written.bytes)
 }
 
-fn write(
-    left: u16,
-    right: u16,
+fn fitted(rt: HostRuntime, fitted: fit::Fitted, slopes: &[i32], curvatures: &[i32]) -> Result<()> {
+    print!(rt; "fit {}", Verdict(fitted.number, fitted.place))?;
+    print_slopes(rt, slopes, curvatures)
+}
+
+fn fit(
+    rt: HostRuntime,
     minutes: &[u16],
     ordinates: &[i16],
-    slopes: &[i32],
-    curvatures: &[i32],
-    buffer: &mut [u8],
-) {
-    let answer = writer::write(minutes, ordinates, slopes, curvatures, left, right, buffer);
-    written(b"write", answer, buffer);
-}
-
-fn write_slopes(
-    minutes: &[u16],
-    ordinates: &[i16],
-    slopes: &[i32],
-    curvatures: &[i32],
-    buffer: &mut [u8],
-) {
-    let answer = writer::write_slopes(minutes, ordinates, slopes, curvatures, buffer);
-    written(b"write_slopes", answer, buffer);
-}
-
-fn fitted(fitted: fit::Fitted, slopes: &[i32], curvatures: &[i32]) {
-    print::verdict(b"fit", fitted.number, fitted.place);
-    print::numbers(b"; slopes", slopes);
-    print::numbers(b"; curvatures", curvatures);
-}
-
-fn fit(minutes: &[u16], ordinates: &[i16], slopes: &mut [i32], curvatures: &mut [i32]) {
+    slopes: &mut [i32],
+    curvatures: &mut [i32],
+) -> Result<()> {
     let answer = fit::fit(minutes, ordinates, slopes, curvatures);
-    fitted(answer, slopes, curvatures);
+    fitted(rt, answer, slopes, curvatures)
 }
 
-fn fit_slopes(minutes: &[u16], ordinates: &[i16], slopes: &[i32], curvatures: &mut [i32]) {
+fn fit_slopes(
+    rt: HostRuntime,
+    minutes: &[u16],
+    ordinates: &[i16],
+    slopes: &[i32],
+    curvatures: &mut [i32],
+) -> Result<()> {
     let fitted = slope_fit::fit(minutes, ordinates, slopes, curvatures);
-    print::verdict(b"fit_slopes", fitted.number, fitted.place);
-    print::numbers(b"; curvatures", curvatures);
+    let verdict = Verdict(fitted.number, fitted.place);
+    print!(rt; "fit_slopes {verdict}; curvatures{}", Numbers(curvatures))
 }
 
 // A numerator and a divisor, each as how many times 2^31 and the rest: exact up to 2^53.
@@ -136,6 +214,7 @@ fn number(list: &[u8], at: usize) -> f64
 }
 
 fn fit_codes(
+    rt: HostRuntime,
     left: u16,
     right: u16,
     minutes: &[u16],
@@ -143,9 +222,9 @@ fn fit_codes(
     slopes: &mut [i32],
     curvatures: &mut [i32],
     ends: &[u8],
-) {
+) -> Result<()> {
     if ends.len() < 64 {
-        return;
+        return Ok(());
     }
     let answer = fit::fit_codes(
         minutes,
@@ -159,104 +238,82 @@ fn fit_codes(
         number(ends, 32),
         number(ends, 48),
     );
-    fitted(answer, slopes, curvatures);
+    fitted(rt, answer, slopes, curvatures)
 }
 
 fn mend(
+    rt: HostRuntime,
     room: usize,
     minutes: &[u16],
     ordinates: &mut [i16],
     slopes: &mut [i32],
     curvatures: &mut [i32],
-) {
+) -> Result<()> {
     let plan = mend::mend(minutes, ordinates, slopes, curvatures, room);
-    print::verdict(b"mend", plan.number, plan.place);
-    print::counted(b"; count", plan.count);
-    let places = plan.places;
-    let olds = plan.olds;
-    let news = plan.news;
-    print::changes(plan.count, &places, &olds, &news);
-    print::ordinates(ordinates);
-    print::numbers(b"; slopes", slopes);
-    print::numbers(b"; curvatures", curvatures);
+    let verdict = Verdict(plan.number, plan.place);
+    print!(rt; "mend {verdict}; count {}", plan.count)?;
+    let changes = plan
+        .places
+        .iter()
+        .zip(plan.olds.iter())
+        .zip(plan.news.iter());
+    for ((place, old), new) in changes.take(plan.count as usize) {
+        print!(rt; "; change {place} {old} {new}")?;
+    }
+    print!(rt; "; ordinates{}", Numbers(ordinates))?;
+    print_slopes(rt, slopes, curvatures)
 }
 
-fn preheat(parts: u16, count: u16, values: &[i16]) {
+fn preheat(rt: HostRuntime, parts: u16, count: u16, values: &[i16]) -> Result<()> {
     let heated = preheat::value(values, parts, count);
-    print::verdict(b"preheat", heated.number, heated.place);
-    print::named(b"; value", heated.value);
+    let verdict = Verdict(heated.number, heated.place);
+    print!(rt; "preheat {verdict}; value {}", heated.value)
 }
 
-fn unknown(place: u16, values: &[i16]) {
-    let answer = unknowns::unknown_at(values, place);
-    print::verdict(b"unknown", answer.number, answer.place);
-    print::wide(b"; unknown", answer.unknown);
-    print::wide(b"; scale", answer.scale);
-}
-
-// Whether a record of a kind asks about bytes.
-pub(crate) fn about_bytes(kind: u16) -> bool {
-    kind < 5 || kind == 12
-}
-
-// The questions about bytes, by the kind of the record; kind 0 is a text to print.
-pub(crate) fn of_bytes(kind: u16, minute: u16, list: &[u8]) {
-    match kind {
-        1 => mean(minute, list),
-        2 => reading(minute, list),
-        3 => check(list),
-        4 => swing(list),
-        12 => explain(minute, list),
-        _ => {
-            io::write_all(1, list);
+fn unknown(rt: HostRuntime, place: u16, values: &[i16]) -> Result<()> {
+    match unknowns::unknown_at(values, place) {
+        Ok(answer) => {
+            let Unknown { unknown, scale } = answer;
+            print!(rt; "unknown ok; unknown {unknown}; scale {scale}")
+        }
+        Err(refusal) => {
+            let verdict = Verdict(refusal.number(), refusal.place);
+            print!(rt; "unknown {verdict}; unknown 0; scale 0")
         }
     }
 }
 
-// The questions about knots. In place of the left end's code, mending has how many places its list of changes
-// has; in place of both codes, the pre-heater has its parts and its count, an unknown its place.
+// In place of the left end's code, mending has how many places its list of changes has; in place of both codes,
+// the pre-heater has its parts and its count, an unknown its place. The four lists go each for itself: in a struct
+// of loans they could not be lent on, since the borrow checker does not cover that.
 pub(crate) fn of_knots(
-    kind: u16,
+    rt: HostRuntime,
+    asked: OfKnots,
     left: u16,
     right: u16,
-    minutes: &[u16],
+    minutes: &mut [u16],
     ordinates: &mut [i16],
     slopes: &mut [i32],
     curvatures: &mut [i32],
     list: &mut [u8],
-) {
-    match kind {
-        5 => {
-            fit(minutes, ordinates, slopes, curvatures);
-            return;
+) -> Result<()> {
+    match asked {
+        OfKnots::Fit => fit(rt, minutes, ordinates, slopes, curvatures),
+        OfKnots::FitCodes => fit_codes(
+            rt, left, right, minutes, ordinates, slopes, curvatures, list,
+        ),
+        OfKnots::Write => {
+            let answer = writer::write(minutes, ordinates, slopes, curvatures, left, right, list);
+            written(rt, "write", answer, list)
         }
-        6 => {
-            fit_codes(left, right, minutes, ordinates, slopes, curvatures, list);
-            return;
+        OfKnots::Read => read(rt, list, minutes, ordinates, slopes, curvatures),
+        OfKnots::Mend => mend(rt, left as usize, minutes, ordinates, slopes, curvatures),
+        OfKnots::FitSlopes => fit_slopes(rt, minutes, ordinates, slopes, curvatures),
+        OfKnots::WriteSlopes => {
+            let answer = writer::write_slopes(minutes, ordinates, slopes, curvatures, list);
+            written(rt, "write_slopes", answer, list)
         }
-        7 => {
-            write(left, right, minutes, ordinates, slopes, curvatures, list);
-            return;
-        }
-        10 => {
-            fit_slopes(minutes, ordinates, slopes, curvatures);
-            return;
-        }
-        11 => {
-            write_slopes(minutes, ordinates, slopes, curvatures, list);
-            return;
-        }
-        13 => {
-            preheat(left, right, ordinates);
-            return;
-        }
-        14 => {
-            unknown(left, ordinates);
-            return;
-        }
-        _ => {
-            mend(left as usize, minutes, ordinates, slopes, curvatures);
-            return;
-        }
+        OfKnots::Preheat => preheat(rt, left, right, ordinates),
+        OfKnots::Unknown => unknown(rt, left, ordinates),
     }
 }

@@ -1,81 +1,69 @@
 // A record's body taken apart into what is lent to the library: six numbers of two bytes, then minutes, ordinates, slopes and curvatures, then bytes.
-ghost use Rattle.std.specs.Prelude.{◌≡◌, ◌+◌, ◌≤◌, length};
+ghost use Rattle.std.specs.Prelude.{◌+◌, ◌≤◌, length};
 
 use crate::ask;
+use crate::ask::Question;
+use std::io::Result;
 
-// How many places a list has: at most 66, one more than a card that is refused for its knots has.
+// At most so many places has a list, one more than a card that is refused for its knots has.
+const MOST: usize = 66;
+
+// How many places a list has.
 fn places(body: &[u8], at: usize) -> usize
     requires { at + 2 ≤ length body.now }
     ensures { result ≤ 66 }
 {
-    let places = little_endian::read_u16(body, at) as usize;
-    if places <= 66 { places } else { 66 }
+    (little_endian::read_u16(body, at) as usize).min(MOST)
 }
 
-// Each reads 66 places from an offset on, as far as the body goes.
-fn minutes(body: &[u8], from: usize) -> [u16; 66]
-    requires { from ≤ 1000 }
-    ensures { 66 ≡ length result }
-{
-    let mut list = [0u16; 66];
-    let mut at = from;
-    let mut i: usize = 0;
-    while i < 66 {
-        if body.len() < at + 2 {
-            return list;
-        }
-        list[i] = little_endian::read_u16(body, at);
-        at += 2;
-        i += 1;
+// A number in bytes, the lowest first.
+trait Little: Copy {
+    // The one at the front, and what is behind it; nothing where there are too few.
+    fn first(bytes: &[u8]) -> Option<(Self, &[u8])>;
+}
+
+impl Little for u16 {
+    fn first(bytes: &[u8]) -> Option<(u16, &[u8])> {
+        let (number, behind) = bytes.split_first_chunk::<2>()?;
+        Some((u16::from_le_bytes(*number), behind))
     }
-    list
 }
 
-fn ordinates(body: &[u8], from: usize) -> [i16; 66]
-    requires { from ≤ 1000 }
-    ensures { 66 ≡ length result }
-{
-    let mut list = [0i16; 66];
-    let mut at = from;
-    let mut i: usize = 0;
-    while i < 66 {
-        if body.len() < at + 2 {
-            return list;
-        }
-        list[i] = little_endian::read_i16(body, at);
-        at += 2;
-        i += 1;
+impl Little for i16 {
+    fn first(bytes: &[u8]) -> Option<(i16, &[u8])> {
+        let (number, behind) = bytes.split_first_chunk::<2>()?;
+        Some((i16::from_le_bytes(*number), behind))
     }
-    list
 }
 
-fn numbers(body: &[u8], from: usize) -> [i32; 66]
-    requires { from ≤ 1000 }
-    ensures { 66 ≡ length result }
-{
-    let mut list = [0i32; 66];
-    let mut at = from;
-    let mut i: usize = 0;
-    while i < 66 {
-        if body.len() < at + 4 {
-            return list;
-        }
-        list[i] = little_endian::read_i32(body, at);
-        at += 4;
-        i += 1;
+impl Little for i32 {
+    fn first(bytes: &[u8]) -> Option<(i32, &[u8])> {
+        let (number, behind) = bytes.split_first_chunk::<4>()?;
+        Some((i32::from_le_bytes(*number), behind))
     }
-    list
 }
 
-pub(crate) fn question(kind: u16, body: &mut [u8]) {
+// The numbers that lie one behind the other at the front of bytes, as far as these go.
+fn fill<T: Little>(list: &mut [T], bytes: &[u8]) {
+    let mut rest = bytes;
+    for place in list.iter_mut() {
+        let Some((number, behind)) = T::first(rest) else {
+            return;
+        };
+        *place = number;
+        rest = behind;
+    }
+}
+
+pub(crate) fn question(rt: HostRuntime, asked: Question, body: &mut [u8]) -> Result<()> {
     if body.len() < 12 {
-        return;
+        return Ok(());
     }
     let left = little_endian::read_u16(body, 8);
-    if ask::about_bytes(kind) {
-        ask::of_bytes(kind, left, &body[12..]);
-        return;
-    }
+    let asked = match asked {
+        Question::Bytes(asked) => return ask::of_bytes(rt, asked, left, &body[12..]),
+        Question::Knots(asked) => asked,
+    };
     let right = little_endian::read_u16(body, 10);
     let x = places(body, 0);
     let y = places(body, 2);
@@ -86,30 +74,25 @@ pub(crate) fn question(kind: u16, body: &mut [u8]) {
     let behind_slopes = behind_ordinates + 4 * m;
     let rest = behind_slopes + 4 * c;
     if body.len() < rest {
-        return;
+        return Ok(());
     }
-    let mut minutes = minutes(body, 12);
-    let mut ordinates = ordinates(body, behind_minutes);
-    let mut slopes = numbers(body, behind_ordinates);
-    let mut curvatures = numbers(body, behind_slopes);
-    if kind == 8 {
-        ask::read(
-            &body[rest..],
-            &mut minutes[..x],
-            &mut ordinates[..y],
-            &mut slopes[..m],
-            &mut curvatures[..c],
-        );
-        return;
-    }
+    let mut minutes = [0u16; MOST];
+    let mut ordinates = [0i16; MOST];
+    let mut slopes = [0i32; MOST];
+    let mut curvatures = [0i32; MOST];
+    fill(&mut minutes, &body[12..]);
+    fill(&mut ordinates, &body[behind_minutes..]);
+    fill(&mut slopes, &body[behind_ordinates..]);
+    fill(&mut curvatures, &body[behind_slopes..]);
     ask::of_knots(
-        kind,
+        rt,
+        asked,
         left,
         right,
-        &minutes[..x],
+        &mut minutes[..x],
         &mut ordinates[..y],
         &mut slopes[..m],
         &mut curvatures[..c],
         &mut body[rest..],
-    );
+    )
 }

@@ -1,13 +1,15 @@
 // Asks the library the questions of tests/cases/questions.txt, which come as records on standard input (tests/cases/records), and prints a line for each answer.
-// The stored output is what the independent reference answers to the same file. A new kind of question is a function and an arm of `ask`.
+// The stored output is what the independent reference answers to the same file. A new kind of question is a function and an arm in `ask`.
 #![tactic(auto)]
 
 mod ask;
 mod lay;
 mod print;
 
-// Reads a record and answers it; false where the input has no more.
-fn answer_record(space: &mut [u8]) -> bool {
+use ask::Question;
+
+// Reads a record and answers it; whether the input had one.
+fn answer_record(rt: HostRuntime, space: &mut [u8]) -> bool {
     let mut head = [0u8; 4];
     let got = io::read_full(0, &mut head);
     if got < 4 {
@@ -19,19 +21,15 @@ fn answer_record(space: &mut [u8]) -> bool {
         return false;
     }
     let had = io::read_full(0, &mut space[..length]);
-    lay::question(kind, &mut space[..had]);
-    true
+    lay::question(rt, Question::from(kind), &mut space[..had]).is_ok()
 }
 
 // At most so many records: a program that is proved must end.
-fn main() {
+fn main(rt: HostRuntime) {
     let mut space = io::buffer();
-    let mut left: usize = 1_000_000;
-    while 0 < left {
-        if answer_record(&mut space) {
-            left -= 1;
-        } else {
-            left = 0;
+    for _ in 0..1_000_000 {
+        if !answer_record(rt, &mut space) {
+            return;
         }
     }
 }

@@ -1,90 +1,43 @@
-// What the lines are made of: words, numbers, verdicts and lists on standard output.
-
-// A number behind its word.
-pub(crate) fn counted(word: &[u8], number: u32) {
-    io::write_all(1, word);
-    io::write_all(1, b" ");
-    io::print_decimal(1, number as u64);
-}
-
-pub(crate) fn wide(word: &[u8], number: i64) {
-    io::write_all(1, word);
-    if number < 0 {
-        io::write_all(1, b" -");
-    } else {
-        io::write_all(1, b" ");
-    }
-    io::print_decimal(1, decimal::magnitude(number));
-}
-
-pub(crate) fn named(word: &[u8], number: i32) {
-    wide(word, number as i64);
-}
+// What the lines are made of: verdicts and lists.
+use std::fmt;
+use std::fmt::{Display, Formatter, Write};
 
 // `ok` or `refused NUMBER at PLACE`.
-pub(crate) fn verdict(word: &[u8], number: u32, place: u32) {
-    io::write_all(1, word);
-    if number == 0 && place == 0 {
-        io::write_all(1, b" ok");
-    } else {
-        counted(b" refused", number);
-        counted(b" at", place);
+#[derive(Clone, Copy)]
+pub(crate) struct Verdict(pub(crate) u32, pub(crate) u32);
+
+impl Display for Verdict {
+    fn fmt<W: Write>(&self, f: &mut Formatter<W>) -> fmt::Result {
+        let Verdict(number, place) = *self;
+        if number == 0 && place == 0 {
+            return f.write_str("ok");
+        }
+        write!(f, "refused {number} at {place}")
     }
 }
 
-pub(crate) fn buffer(list: &[u8]) {
-    io::write_all(1, b"; buffer");
-    let mut i: usize = 0;
-    while i < list.len() {
-        io::write_all(1, b" ");
-        io::print_hex(1, list[i] as u64, 2);
-        i += 1;
+// Each number behind a blank.
+#[derive(Clone, Copy)]
+pub(crate) struct Numbers<'a, T>(pub(crate) &'a [T]);
+
+impl<T: Display> Display for Numbers<'_, T> {
+    fn fmt<W: Write>(&self, f: &mut Formatter<W>) -> fmt::Result {
+        for number in self.0 {
+            write!(f, " {number}")?;
+        }
+        Ok(())
     }
 }
 
-pub(crate) fn minutes(list: &[u16]) {
-    io::write_all(1, b"; minutes");
-    let mut i: usize = 0;
-    while i < list.len() {
-        counted(b"", list[i] as u32);
-        i += 1;
-    }
-}
+// Each byte in two hexadecimal digits.
+#[derive(Clone, Copy)]
+pub(crate) struct Bytes<'a>(pub(crate) &'a [u8]);
 
-pub(crate) fn ordinates(list: &[i16]) {
-    io::write_all(1, b"; ordinates");
-    let mut i: usize = 0;
-    while i < list.len() {
-        ordinate(list[i]);
-        i += 1;
-    }
-}
-
-fn ordinate(ordinate: i16) {
-    named(b"", ordinate as i32);
-}
-
-pub(crate) fn numbers(word: &[u8], list: &[i32]) {
-    io::write_all(1, word);
-    let mut i: usize = 0;
-    while i < list.len() {
-        named(b"", list[i]);
-        i += 1;
-    }
-}
-
-// A change as its place, its old number and its new one.
-fn change(place: u32, old: i32, new: i32) {
-    counted(b"; change", place);
-    named(b"", old);
-    named(b"", new);
-}
-
-// The first of the changes, as many as are counted.
-pub(crate) fn changes(count: u32, places: &[u32], olds: &[i32], news: &[i32]) {
-    let mut i: usize = 0;
-    while i < count as usize && i < places.len() && i < olds.len() && i < news.len() {
-        change(places[i], olds[i], news[i]);
-        i += 1;
+impl Display for Bytes<'_> {
+    fn fmt<W: Write>(&self, f: &mut Formatter<W>) -> fmt::Result {
+        for byte in self.0 {
+            write!(f, " {byte:02x}")?;
+        }
+        Ok(())
     }
 }

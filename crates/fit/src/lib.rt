@@ -127,8 +127,8 @@ fn fit_alike(
     Ok(())
 }
 
-// All of the order; `named` is 15.
-fn fit_into(
+// All of the order, judged; `named` is 15.
+pub fn fit_into(
     minutes: &[u16],
     ordinates: &[i16],
     slopes: &mut [i32],

@@ -8,35 +8,25 @@ ghost use Rattle.fitter.specs.Turned.{Turned};
 
 use gather::Gathered;
 use sheet::Intake;
+use std::ops::ControlFlow;
 
-// What one more record makes of an intake, and whether another is looked at.
-#[derive(Drop)]
-struct Turn {
-    more: bool,
-    intake: Intake,
-}
-
-// One turn of the loop of `sheet::read`, with what standard input gives for its pieces. No contract can say what that is.
-fn take_record(intake: Intake, space: &mut [u8]) -> Turn
+// One turn of the loop of `sheet::read`, with what standard input gives for its pieces: what one more record makes of an intake, and whether another is looked at. No contract can say what standard input gives.
+fn take_record(intake: Intake, space: &mut [u8]) -> ControlFlow<Intake, Intake>
     requires { Near intake × (65535 ≤ length space.old) }
     ensures { Turned intake result }
 {
     let mut head = [0u8; 4];
     let got = io::read_full(0, &mut head);
     if got == 0 {
-        return Turn {
-            more: false,
-            intake,
-        };
+        return ControlFlow::Break(intake);
     }
     let long = sheet::asked(&head[..got]) as usize;
     let had = io::read_full(0, &mut space[..long]);
     let next = intake.step(&head[..got], &space[..had]);
-    let done = next.done();
-    Turn {
-        more: !done,
-        intake: next,
+    if next.done() {
+        return ControlFlow::Break(next);
     }
+    ControlFlow::Continue(next)
 }
 
 // At most 65 records, each with at most 65,535 bytes behind its head: one buffer holds one of them.
@@ -45,15 +35,10 @@ fn read_input() -> Gathered
 {
     let mut space = io::large_buffer();
     let mut intake = Intake::new();
-    let mut left: usize = Gathered::MOST;
-    while 0 < left {
-        let turn = take_record(intake, &mut space);
-        let next = turn.intake;
-        intake = next;
-        if turn.more {
-            left -= 1;
-        } else {
-            left = 0;
+    for _taken in 0..Gathered::MOST {
+        match take_record(intake, &mut space) {
+            ControlFlow::Continue(next) => intake = next,
+            ControlFlow::Break(last) => return last.close(),
         }
     }
     intake.close()

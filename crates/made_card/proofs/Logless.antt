@@ -8,20 +8,22 @@ use native.Mathlib.Omega.{arith}
 use lib.IntN.{pos}
 use lib.ListN.{length, length-map, take, drop, get_or, replicate}
 use lib.Seq.{sets, sets-eq, take_at, drop-cons}
-use borrow.Author.Tests.{eq-eqb}
 use Rattle.answer.specs.Answer.{accepted, ◌then◌}
 use Rattle.curve.specs.Kind.{quintic}
 use Rattle.curve.specs.Steps.{counted}
 use Rattle.listing.specs.Text.{no_log}
+use Rattle.std.specs.Prelude.{Result, Ok, Err}
+use Rattle.text.specs.declared.Blame.{Blame}
 use Rattle.text.specs.declared.Sheet.{Sheet}
 use Rattle.text.specs.Sheet.{most, sheet}
-use Rattle.text.proofs.Room.{Roomy, roomy}
+use Rattle.text.proofs.Room.{Roomy}
 use Rattle.gather.specs.declared.Knot.{Knot}
 use Rattle.gather.specs.Gathered.{plain, logs, filled, gathering, settled}
 use Rattle.reply.specs.Knots.{knot_at, knots_from, gathered}
-use Rattle.reply.specs.Reply.{ToKnots, gathered_reply, text_reply}
+use Rattle.reply.specs.Reply.{ToKnots, gathered_reply, sheet_answer, text_reply}
 use Rattle.reply.proofs.Gathers.{so_many_from}
-use Rattle.made_card.specs.Made.{Logless, written_reply}
+use Rattle.made_card.specs.Made.{read_sheet, the_sheet, Logless, written_reply}
+use Rattle.made_card.proofs.Typed.{roomy_sheet}
 
 module _ (a : Sheet) (none : Logless a) (ls : List ℕ) where
   abbrev n : ℕ
@@ -62,8 +64,8 @@ module _ (a : Sheet) (none : Logless a) (ls : List ℕ) where
     its_ordinates =
         front (λ k. k.ordinate) (pos 0) ∙ its_list (λ k. k.ordinate) a.ordinates (pos 0) (λ i. ap (λ k. k.ordinate) (as_it_stands i)) 0 n (omega (arith, room.few, room.ordinates))
 
-    its_faults : take n (sets (replicate most 0) 0 (map (λ k. k.faults) ks)) ≡ replicate n no_log
-    its_faults = front (λ k. k.faults) 0 ∙ no_faults 0 n
+    its_faults : take n (sets (replicate most no_log) 0 (map (λ k. k.faults) ks)) ≡ replicate n no_log
+    its_faults = front (λ k. k.faults) no_log ∙ no_faults 0 n
 
     -- ---- all of them
 
@@ -82,18 +84,25 @@ module _ (a : Sheet) (none : Logless a) (ls : List ℕ) where
       unfolding gathered_reply filled
       as_they_stand to-knots lines card = rw (all_taken, so_many_from a ls 0 n, its_minutes, its_ordinates, its_faults)
 
-module _ (mends : Bool) (to-knots : Sheet → ToKnots) (s : List ℕ) (none : Logless (sheet mends s)) where
+same_knots : (a : Sheet) → Logless a → (l l' : List ℕ) (i k : ℕ) → knots_from a l i k ≡ knots_from a l' i k
+unfolding knots_from
+same_knots a none l l' i zero = refl
+same_knots a none l l' i (suc k) = ap₂ (λ v vs. v ∷ vs) (as_it_stands a none l i ∙ sym (as_it_stands a none l' i)) (same_knots a none l l' (suc i) k)
+
+module _ (mends : Bool) (to-knots : Sheet → ToKnots) (s : List ℕ) (none : Logless (the_sheet mends s)) where
   -- a sheet of 3 to 64 knots, in which nothing is wrong
-  pub as_before_logs : (sheet mends s).wrong ≡ 0 → counted quintic (sheet mends s).knots ≡ accepted → (logs card : List ℕ) → text_reply mends to-knots s logs card ≡ written_reply (to-knots (sheet mends s)) (sheet mends s) card
-  unfolding text_reply
-  as_before_logs sound enough logs card = rw (eq-eqb (sheet mends s).wrong 0 sound) (as_they_stand (sheet mends s) none logs (roomy mends s) enough (to-knots (sheet mends s)) (sheet mends s).lines card)
+  pub as_before_logs : sheet mends s ≡ Ok (the_sheet mends s) → counted quintic (the_sheet mends s).knots ≡ accepted → (logs card : List ℕ)
+      → text_reply mends to-knots s logs card ≡ written_reply (to-knots (the_sheet mends s)) (the_sheet mends s) card
+  unfolding sheet_answer
+  as_before_logs sound enough logs card =
+      ap (λ r. sheet_answer to-knots s r logs card) sound
+      ∙ as_they_stand (the_sheet mends s) none logs (roomy_sheet mends s) enough (to-knots (the_sheet mends s)) (the_sheet mends s).lines card
 
   -- and any other
-  same_knots : (l l' : List ℕ) (i k : ℕ) → knots_from (sheet mends s) l i k ≡ knots_from (sheet mends s) l' i k
-  unfolding knots_from
-  same_knots l l' i zero = refl
-  same_knots l l' i (suc k) = ap₂ (λ v vs. v ∷ vs) (as_it_stands (sheet mends s) none l i ∙ sym (as_it_stands (sheet mends s) none l' i)) (same_knots l l' (suc i) k)
-
   pub whatever_the_logs : (logs logs' card : List ℕ) → text_reply mends to-knots s logs card ≡ text_reply mends to-knots s logs' card
-  unfolding text_reply
-  whatever_the_logs logs logs' card = rw (same_knots logs logs' 0 (sheet mends s).knots)
+  unfolding sheet_answer
+  whatever_the_logs logs logs' card = go (sheet mends s) none
+    where
+      go : (r : Result Sheet Blame) → Logless (read_sheet r) → sheet_answer to-knots s r logs card ≡ sheet_answer to-knots s r logs' card
+      go (Err b) none = refl
+      go (Ok a) none = rw (same_knots a none logs logs' 0 a.knots)

@@ -43,19 +43,21 @@ use Rattle.holes.specs.Hole.{mended}
 use Rattle.mend.specs.Order.{mend}
 use Rattle.mend.specs.Promise.{ordinates_after}
 use Rattle.listing.specs.Text.{listing}
+use Rattle.std.specs.Prelude.{Option, Result, Ok, Err}
+use Rattle.text.specs.declared.Blame.{Blame}
 use Rattle.text.specs.declared.Sheet.{Sheet}
 use Rattle.text.specs.Sheet.{sheet, most}
-use Rattle.text.proofs.Room.{roomy as sheet-roomy}
 use Rattle.gather.specs.declared.Gathered.{Gathered}
-use Rattle.reply.specs.Reply.{Reply, refusing, listing_of, reply_of, ToKnots, fit_reply, by_slopes, slopes_reply, sheet_reply, gathered_reply, text_reply, reply}
+use Rattle.reply.specs.Reply.{Reply, refusing, listing_of, reply_of, ToKnots, fit_reply, by_slopes, slopes_reply, sheet_reply, gathered_reply, sheet_answer, text_reply, reply}
+use Rattle.reply.specs.Knots.{gathered}
 use Rattle.reply.specs.Mending.{room as places, mend_reply, mending_reply}
 use Rattle.reply.proofs.Gathers.{Roomy, roomy}
 use Rattle.reply.proofs.Lists.{minutes_hold}
 use Rattle.kaihveto.specs.Types.{Minutes}
 use Rattle.demands.proofs.Numbered.{says}
 use Rattle.demands.proofs.Numbers.{typed}
-use Rattle.made_card.specs.Made.{sheet_knots, sheet_kind, sheet_fit, sheet_mend, sheet_faults, made_bytes, Made}
-use Rattle.made_card.proofs.Typed.{minutes_front, minutes_typed, minutes_gathered}
+use Rattle.made_card.specs.Made.{read_sheet, the_sheet, sheet_knots, sheet_kind, sheet_fit, sheet_mend, sheet_faults, made_bytes, Made}
+use Rattle.made_card.proofs.Typed.{minutes_front, minutes_typed, minutes_gathered, roomy_sheet}
 use Rattle.mending.proofs.Numbered.{mend_numbered}
 
 -- a refusal's status is '1', so that behind a '0' the test held
@@ -66,7 +68,7 @@ done_by false done words card e = absurd (omega arith)
 
 -- f gives no card but c, which the test of its kind accepts where f gives it; the lists hold it then
 module _ {K : Kind} (known : Known K) (f : Answer Card) (numbers : Never 0 f) (c : Card) (only : (d : Card) → f ≡ given d → d ≡ c) (sound : f ≡ given c → verdict K c ≡ accepted)
-    (held : Answer Card → Card) (holds : held (given c) ≡ c) (faults lines buffer : List ℕ) where
+    (held : Answer Card → Card) (holds : held (given c) ≡ c) (faults : List (Option ℕ)) (lines buffer : List ℕ) where
   abbrev its_reply : Answer Card → Reply
   its_reply g = reply_of K (number g) (place g) (held g) faults lines buffer
 
@@ -127,14 +129,14 @@ module _ (mends : Bool) (s logs buffer : List ℕ) where
   abbrev zeros : List ℤ
   zeros = take n (replicate most (pos 0))
 
-  abbrev faults : List ℕ
+  abbrev faults : List (Option ℕ)
   faults = sheet_faults mends s logs
 
   abbrev on : List ℕ
-  on = (sheet mends s).lines
+  on = (the_sheet mends s).lines
 
   gathers : Roomy g
-  gathers = roomy (sheet mends s) logs (sheet-roomy mends s).few
+  gathers = roomy (the_sheet mends s) logs (roomy_sheet mends s).few
 
   as_many : length zeros ≡ n
   as_many = length-take-le n (replicate most (pos 0)) gathers.few
@@ -143,12 +145,19 @@ module _ (mends : Bool) (s logs buffer : List ℕ) where
   as_many_knots = length-take-le n g.minutes (minutes_hold gathers)
 
   typed_knots : Minutes xs
-  typed_knots = minutes_front n g.minutes (minutes_gathered (sheet mends s) (minutes_typed mends s) logs)
+  typed_knots = minutes_front n g.minutes (minutes_gathered (the_sheet mends s) (minutes_typed mends s) logs)
 
-  knots_answered : (to-knots : Sheet → ToKnots) → (text_reply mends to-knots s logs buffer).status ≡ 48 → text_reply mends to-knots s logs buffer ≡ to-knots (sheet mends s) xs ys zeros zeros faults on buffer
-  unfolding text_reply gathered_reply
+  -- behind a '0' nothing was wrong in the text
+  sheet_answered : (to-knots : Sheet → ToKnots) (r : Result Sheet Blame) → (sheet_answer to-knots s r logs buffer).status ≡ 48
+      → sheet_answer to-knots s r logs buffer ≡ gathered_reply (to-knots (read_sheet r)) (gathered (read_sheet r) logs) (read_sheet r).lines buffer
+  unfolding sheet_answer refusing
+  sheet_answered to-knots (Err b) e = absurd (omega arith)
+  sheet_answered to-knots (Ok a) e = refl
+
+  knots_answered : (to-knots : Sheet → ToKnots) → (text_reply mends to-knots s logs buffer).status ≡ 48 → text_reply mends to-knots s logs buffer ≡ to-knots (the_sheet mends s) xs ys zeros zeros faults on buffer
+  unfolding gathered_reply
   knots_answered to-knots e =
-      let sound = (done_by (eqb (sheet mends s).wrong 0) (gathered_reply (to-knots (sheet mends s)) g on buffer) _ _ e).1 in
+      let sound = sheet_answered to-knots (sheet mends s) e in
       sound ∙ (done_by (eqb g.number 0) _ _ _ (ap (λ r. r.status) (sym sound) ∙ e)).1
 
   -- to these knots, with zeros in the lent lists
@@ -199,7 +208,7 @@ module _ (mends : Bool) (s logs buffer : List ℕ) where
 
   -- the reply to the text is that to its knots
   made_by : {K : Kind} {f : Answer Card} (to-knots : Sheet → ToKnots) → (text_reply mends to-knots s logs buffer).status ≡ 48
-      → ((answered (to-knots (sheet mends s))).status ≡ 48 → Made K f faults (answered (to-knots (sheet mends s)))) → Made K f faults (text_reply mends to-knots s logs buffer)
+      → ((answered (to-knots (the_sheet mends s))).status ≡ 48 → Made K f faults (answered (to-knots (the_sheet mends s)))) → Made K f faults (text_reply mends to-knots s logs buffer)
   made_by {K} {f} to-knots e m =
       let is = knots_answered to-knots e in
       subst (λ r. Made K f faults r) (sym is) (m (ap (λ r. r.status) (sym is) ∙ e))
@@ -207,7 +216,7 @@ module _ (mends : Bool) (s logs buffer : List ℕ) where
 pub made_card : (left right : End) (s logs buffer : List ℕ) → size quintic.most_knots ≤ length buffer → (reply left right s logs buffer).status ≡ 48
     → Made (sheet_kind s) (sheet_fit left right s logs) (sheet_faults false s logs) (reply left right s logs buffer)
 made_card left right s logs buffer room e =
-    let a = sheet false s in
+    let a = the_sheet false s in
     made_by false s logs buffer (sheet_reply left right) e (sheet_made false s logs buffer room left right a.slopes a.sloped)
 
 pub mended_card : (s logs buffer : List ℕ) → size quintic.most_knots ≤ length buffer → (mending_reply s logs buffer).status ≡ 48 → Made quintic (sheet_mend s logs) (sheet_faults true s logs) (mending_reply s logs buffer)

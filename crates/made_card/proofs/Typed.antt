@@ -16,17 +16,16 @@ use Rattle.gather.specs.declared.Gathered.{Gathered}
 use Rattle.gather.specs.Gathered.{plain, logged, logs, filled, gathering, settled}
 use Rattle.split.specs.Parts.{lines, bare, words}
 use Rattle.numeral.specs.Number.{starts, natural, signed_number, ordinate}
-use Rattle.numeral.specs.declared.Number.{Number}
-use Rattle.numeral.specs.declared.Number.TheVariants.{Whole, Bad}
-use Rattle.numeral.specs.declared.Ordinate.{Ordinate}
-use Rattle.numeral.specs.declared.Ordinate.TheVariants.{Given, Hole as Missing, Wrong}
-use Rattle.numeral.specs.declared.Signed.{Signed}
-use Rattle.numeral.specs.declared.Signed.TheVariants.{Told, Untold}
 use Rattle.numeral.proofs.Numbers.{natural_upto}
 use Rattle.holes.specs.Hole.{hole}
-use Rattle.text.specs.Sheet.{too_long, nameless, no_slope, slopeless, odd_slope, unmended, at_sign, with_ordinate, behind, knot_by, knot, with_slope, line_by, is_hole, line, most, refused, with_knot, without_slope, unsloped, sloping, taken, goes_on, read, longest, sheet}
+use Rattle.std.specs.Prelude.{Option, Some, None, Result, Ok, Err, IfOk}
+use Rattle.numeral.specs.declared.Wrong.{Wrong}
+use Rattle.text.specs.declared.Blame.{Blame}
+use Rattle.text.specs.Sheet.{at_sign, with_ordinate, behind, knot_by, knot, with_slope, line_by, line, most, no_knots, with_knot, without_slope, unsloped, sloping, taken, read, sheet}
+use Rattle.text.proofs.Room.{Roomy, roomy_none, roomy, of_line, of_lines, of_sheet}
+use Rattle.made_card.specs.Made.{read_sheet, the_sheet}
 use Rattle.text.specs.declared.Line.{Line}
-use Rattle.text.specs.declared.Line.TheVariants.{Empty, Knot, Sloped, Hole, Log, SlopedLog, Refused}
+use Rattle.text.specs.declared.Line.TheVariants.{Empty, Knot, Hole, Log}
 use Rattle.text.specs.declared.Sheet.{Sheet}
 use Rattle.reply.specs.Knots.{log_at, knot_at, knots_from, gathered}
 use Rattle.kaihveto.specs.Types.{Minutes}
@@ -56,26 +55,24 @@ minutes_front (suc n) (a ∷ l) m (suc i) = minutes_front n l (λ j. m (suc j)) 
 
 -- ---- a line's minute
 
-abbrev Small : Line → Type 0
-Small Empty = Unit {0}
-Small (Refused wrong) = Unit {0}
-Small (Knot x y) = x < 2 ^ 16
-Small (Sloped x y m) = x < 2 ^ 16
-Small (Hole x) = x < 2 ^ 16
-Small (Log x) = x < 2 ^ 16
-Small (SlopedLog x m) = x < 2 ^ 16
+abbrev Small : Result Line Wrong → Type 0
+Small (Err wrong) = Unit {0}
+Small (Ok Empty) = Unit {0}
+Small (Ok (Knot x y m)) = x < 2 ^ 16
+Small (Ok (Hole x)) = x < 2 ^ 16
+Small (Ok (Log x m)) = x < 2 ^ 16
 
-small_with_ordinate : (n : ℕ) → n < 2 ^ 16 → (y : Ordinate) → Small (with_ordinate n y)
+small_with_ordinate : (n : ℕ) → n < 2 ^ 16 → (y : Result (Option ℤ) Wrong) → Small (with_ordinate n y)
 unfolding with_ordinate
-small_with_ordinate n h (Wrong wrong) = tt
-small_with_ordinate n h Missing = h
-small_with_ordinate n h (Given y) = h
+small_with_ordinate n h (Err wrong) = tt
+small_with_ordinate n h (Ok None) = h
+small_with_ordinate n h (Ok (Some y)) = h
 
 small_behind : (n : ℕ) → n < 2 ^ 16 → (w : List ℕ) → Small (behind n w)
 unfolding behind
 small_behind n h w = go (starts at_sign w) (eqb (length w) 1)
   where
-    go : (named bare : Bool) → Small (cond named (cond bare (Refused nameless) (Log n)) (with_ordinate n (ordinate w)))
+    go : (named bare : Bool) → Small (cond named (cond bare (Err Wrong.Nameless) (Ok (Log n None))) (with_ordinate n (ordinate w)))
     go true true = tt
     go true false = h
     go false bare = small_with_ordinate n h (ordinate w)
@@ -84,21 +81,21 @@ small_knot : (x w : List ℕ) → Small (knot x w)
 unfolding knot_by
 small_knot x w = go (natural latest x) refl
   where
-    go : (n : Number) → natural latest x ≡ n → Small (knot_by n w)
-    go (Bad wrong) e = tt
-    go (Whole n) e = small_behind n (omega (arith, natural_upto latest x e)) w
+    go : (n : Result ℕ Wrong) → natural latest x ≡ n → Small (knot_by n w)
+    go (Err wrong) e = tt
+    go (Ok n) e = small_behind n (omega (arith, natural_upto latest x e)) w
 
-small_with_slope : (l : Line) → Small l → (m : Signed) → Small (with_slope l m)
+small_with_slope : (l : Result Line Wrong) → Small l → (m : Result ℤ Wrong) → Small (with_slope l m)
 unfolding with_slope
-small_with_slope (Knot x y) h (Told m) = h
-small_with_slope (Knot x y) h (Untold wrong) = tt
-small_with_slope (Log x) h (Told m) = h
-small_with_slope (Log x) h (Untold wrong) = tt
-small_with_slope (Hole x) h m = tt
-small_with_slope Empty h m = tt
-small_with_slope (Sloped x y z) h m = h
-small_with_slope (SlopedLog x z) h m = h
-small_with_slope (Refused wrong) h m = tt
+small_with_slope (Err wrong) h m = tt
+small_with_slope (Ok Empty) h m = tt
+small_with_slope (Ok (Knot x y None)) h (Ok m) = h
+small_with_slope (Ok (Knot x y None)) h (Err wrong) = tt
+small_with_slope (Ok (Knot x y (Some z))) h m = h
+small_with_slope (Ok (Log x None)) h (Ok m) = h
+small_with_slope (Ok (Log x None)) h (Err wrong) = tt
+small_with_slope (Ok (Log x (Some z))) h m = h
+small_with_slope (Ok (Hole x)) h m = tt
 
 small_line : (l : List ℕ) → Small (line l)
 unfolding line line_by
@@ -113,46 +110,56 @@ small_line l = go (words (bare l))
 
 -- ---- a sheet's minutes
 
-minutes_refused : (wrong n : ℕ) → Minutes (refused wrong n).minutes
-unfolding refused
-minutes_refused wrong n = minutes_zeros most
+abbrev Timed : Sheet → Type 0
+Timed a = Minutes a.minutes
 
-minutes_cond : (b : Bool) (a a' : Sheet) → Minutes a.minutes → Minutes a'.minutes → Minutes (cond b a a').minutes
-minutes_cond true a a' h k = h
-minutes_cond false a a' h k = k
+minutes_none : Timed no_knots
+unfolding no_knots
+minutes_none = minutes_zeros most
 
-module _ (a : Sheet) (m : Minutes a.minutes) (n x : ℕ) (h : x < 2 ^ 16) (y : ℤ) (log : Bool) where
-  minutes_with_knot : (sloped : Bool) (slope : ℤ) → Minutes (with_knot a n x y log sloped slope).minutes
+minutes_cond : (b : Bool) (r r' : Result Sheet Wrong) → IfOk r Timed → IfOk r' Timed → IfOk (cond b r r') Timed
+minutes_cond true r r' h k = h
+minutes_cond false r r' h k = k
+
+module _ (a : Sheet) (m : Timed a) (n x : ℕ) (h : x < 2 ^ 16) (y : ℤ) (log : Bool) where
+  minutes_with_knot : (sloped : Bool) (slope : ℤ) → Timed (with_knot a n x y log sloped slope)
   unfolding with_knot
   minutes_with_knot sloped slope = minutes_set a.minutes a.knots x h m
 
-  minutes_without_slope : Minutes (without_slope a n x y log).minutes
+  minutes_without_slope : IfOk (without_slope a n x y log) Timed
   unfolding without_slope
-  minutes_without_slope = minutes_cond a.sloped _ _ (minutes_refused slopeless n) (minutes_with_knot false (pos 0))
+  minutes_without_slope = minutes_cond a.sloped _ (Ok (with_knot a n x y log false (pos 0))) tt (minutes_with_knot false (pos 0))
 
-  minutes_sloping : (mends : Bool) (slope : ℤ) → Minutes (sloping mends a n x y log slope).minutes
+  minutes_sloping : (mends : Bool) (slope : ℤ) → IfOk (sloping mends a n x y log slope) Timed
   unfolding sloping
-  minutes_sloping mends slope = minutes_cond mends _ _ (minutes_refused unmended n) (minutes_cond (unsloped a) _ _ (minutes_refused odd_slope n) (minutes_with_knot true slope))
+  minutes_sloping mends slope =
+      minutes_cond mends _ _ tt (minutes_cond (unsloped a) (Err Wrong.OddSlope) (Ok (with_knot a n x y log true slope)) tt (minutes_with_knot true slope))
 
 module _ (mends : Bool) where
-  minutes_taken : (a : Sheet) → Minutes a.minutes → (n : ℕ) (l : Line) → Small l → Minutes (taken mends a n l).minutes
+  minutes_taken : (a : Sheet) → Timed a → (n : ℕ) (l : Line) → Small (Ok l) → IfOk (taken mends a n l) Timed
   unfolding taken
   minutes_taken a m n Empty h = m
-  minutes_taken a m n (Refused wrong) h = minutes_refused wrong n
-  minutes_taken a m n (Knot x y) h = minutes_without_slope a m n x h y false
-  minutes_taken a m n (Sloped x y z) h = minutes_sloping a m n x h y false mends z
-  minutes_taken a m n (Log x) h = minutes_without_slope a m n x h (pos 0) true
-  minutes_taken a m n (SlopedLog x z) h = minutes_sloping a m n x h (pos 0) true mends z
-  minutes_taken a m n (Hole x) h = minutes_cond mends _ _ (minutes_without_slope a m n x h hole false) (minutes_refused is_hole n)
+  minutes_taken a m n (Knot x y None) h = minutes_without_slope a m n x h y false
+  minutes_taken a m n (Knot x y (Some z)) h = minutes_sloping a m n x h y false mends z
+  minutes_taken a m n (Log x None) h = minutes_without_slope a m n x h (pos 0) true
+  minutes_taken a m n (Log x (Some z)) h = minutes_sloping a m n x h (pos 0) true mends z
+  minutes_taken a m n (Hole x) h = minutes_cond mends _ _ (minutes_without_slope a m n x h hole false) tt
 
-  minutes_read : (a : Sheet) → Minutes a.minutes → (n : ℕ) (ls : List (List ℕ)) → Minutes (read mends a n ls).minutes
-  unfolding read
-  minutes_read a m n [] = m
-  minutes_read a m n (l ∷ ls) = minutes_cond (goes_on a) _ _ (minutes_read (taken mends a n (line l)) (minutes_taken a m n (line l) (small_line l)) (suc n) ls) m
+  minutes_read : (a : Sheet) → Timed a → (n : ℕ) (ls : List (List ℕ)) → IfOk (read mends a n ls) Timed
+  minutes_read a m n [] = unfold read in m
+  minutes_read a m n (l ∷ ls) =
+      of_lines Timed mends a n l ls m (λ few. of_line Timed mends a n (line l) (λ x e. minutes_taken a m n x (rw e at (small_line l)))) (λ b k. minutes_read b k (suc n) ls)
 
-  pub minutes_typed : (s : List ℕ) → Minutes (sheet mends s).minutes
-  unfolding sheet
-  minutes_typed s = minutes_cond (ltb longest (length s)) _ _ (minutes_refused too_long 0) (minutes_read (refused 0 0) (minutes_refused 0 0) 1 (lines s))
+  -- what holds of a sheet, where nothing is wrong, and of one without knots
+  of_the_sheet : (P : Sheet → Type 0) → P no_knots → (r : Result Sheet Blame) → IfOk r P → P (read_sheet r)
+  of_the_sheet P z (Err b) h = z
+  of_the_sheet P z (Ok a) h = h
+
+  pub minutes_typed : (s : List ℕ) → Minutes (the_sheet mends s).minutes
+  minutes_typed s = of_the_sheet Timed minutes_none (sheet mends s) (of_sheet Timed mends s (minutes_read no_knots minutes_none 1 (lines s)))
+
+  pub roomy_sheet : (s : List ℕ) → Roomy (the_sheet mends s)
+  roomy_sheet s = of_the_sheet Roomy roomy_none (sheet mends s) (roomy mends s)
 
 -- ---- with its logs
 

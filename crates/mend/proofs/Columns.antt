@@ -5,14 +5,13 @@ use native.Mathlib.Numerals.{add-one}
 use native.Mathlib.Nat.{eq-or-lt_of_le, lt_of_not-le}
 use native.Mathlib.Decide.{dec_le}
 use native.Mathlib.Omega.{arith}
-use mathlib.Core.Path.{◌≡◌, refl, sym, ap, ◌∙◌}
+use mathlib.Core.Path.{◌≡◌, refl, sym, ◌∙◌}
 use mathlib.Core.Logic.{◌⊎◌, inl, inr, ⊎_elim, ◌≢◌}
 use mathlib.Core.Bool.{Bool, true, false, cond}
 use mathlib.Core.List.{List, [], ◌∷◌, ◌++◌, append-nil}
 use lib.IntN.{ℤ}
 use lib.ListN.{length, get_or, set, length-set, length-append, get_or-append, get_or-eq_default}
-use lib.Seq.{get_or-set_same, get_or-set_other, get_or-append_seam, set-get_or}
-use Rattle.front.specs.Front.{listed}
+use lib.Seq.{get_or-set_same, get_or-set_other, get_or-append_seam}
 use Rattle.front.proofs.Listed.{length_listed, get_d_listed, is_listed}
 use Rattle.holes.specs.Hole.{hole_at, holes_to}
 use Rattle.holes.specs.Needs.{most}
@@ -40,73 +39,50 @@ module _ (ys zs : List ℤ) where
   pub no_more_changes : (i : ℕ) → length (changes_to ys zs i) ≤ i
   no_more_changes i = omega (arith, as_many_as_holes i, no_more_than_knots ys i)
 
--- ---- a column
+-- ---- in the array
 
-module _ {A : Type 0} (number : Change → A) (n : ℕ) where
-  -- the first n of their numbers
-  abbrev first : List Change → List A
-  first cs = listed (λ j. number (get_or cs j no_change)) n
-
-  module _ (cs : List Change) (room : length cs < n) where
-    -- a change behind the others
-    first_more : (c : Change) → set (first cs) (length cs) (number c) ≡ first (cs ++ (c ∷ []))
-    first_more c =
-        is_listed (λ j. number (get_or (cs ++ (c ∷ [])) j no_change)) (number no_change) n (set (first cs) (length cs) (number c)) (length-set (first cs) (length cs) (number c) ∙ length_listed (λ j. number (get_or cs j no_change)) n)
-        (λ k h. ⊎_elim (λ p. ⊎_elim (λ e. here k (sym e)) (λ q. behind k q h) (eq-or-lt_of_le p)) (λ p. before k p h) (side k))
-      where
-        side : (k : ℕ) → (length cs ≤ k) ⊎ (k < length cs)
-        side k = elim (dec_le (length cs) k) [ yes p ↦ inl p | no p ↦ inr (lt_of_not-le p) ]
-
-        other : (k : ℕ) → k ≢ length cs → k < n → get_or (set (first cs) (length cs) (number c)) k (number no_change) ≡ number (get_or cs k no_change)
-        other k d h = get_or-set_other (first cs) (length cs) k (number c) (number no_change) d ∙ get_d_listed (λ j. number (get_or cs j no_change)) (number no_change) n k h
-
-        here : (k : ℕ) → k ≡ length cs → get_or (set (first cs) (length cs) (number c)) k (number no_change) ≡ number (get_or (cs ++ (c ∷ [])) k no_change)
-        here k e =
-            rw e (get_or-set_same (first cs) (length cs) (number c) (number no_change) (omega (arith, length_listed (λ j. number (get_or cs j no_change)) n)) ∙ sym (ap number (get_or-append_seam cs c [] no_change)))
-
-        before : (k : ℕ) → k < length cs → k < n → get_or (set (first cs) (length cs) (number c)) k (number no_change) ≡ number (get_or (cs ++ (c ∷ [])) k no_change)
-        before k p h = other k (λ e. omega arith) h ∙ ap number (sym (get_or-append cs (c ∷ []) no_change k p))
-
-        behind : (k : ℕ) → length cs < k → k < n → get_or (set (first cs) (length cs) (number c)) k (number no_change) ≡ number (get_or (cs ++ (c ∷ [])) k no_change)
-        behind k p h =
-            other k (λ e. omega arith) h
-            ∙ ap number (get_or-eq_default cs no_change {n = k} (omega arith) ∙ sym (get_or-eq_default (cs ++ (c ∷ [])) no_change {n = k} (omega (arith, length-append cs (c ∷ [])))))
-
-    -- zeros behind them change nothing
-    first_same : set (first cs) (length cs) (number no_change) ≡ first cs
-    first_same =
-        let zero-there : get_or (first cs) (length cs) (number no_change) ≡ number no_change =
-        get_d_listed (λ j. number (get_or cs j no_change)) (number no_change) n (length cs) room ∙ ap number (get_or-eq_default cs no_change {n = length cs} (omega arith)) in
-        ap (set (first cs) (length cs)) (sym zero-there) ∙ set-get_or (first cs) (length cs) (number no_change)
-
-column_step : {A : Type 0} (number : Change → A) (cs : List Change) → length cs < most → (t : Bool) (c : Change)
-    → set (column number cs) (length cs) (number (cond t c no_change)) ≡ column number (cs ++ cond t (c ∷ []) [])
+-- a change behind the others
+pub column_more : (cs : List Change) → length cs < most → (c : Change) → set (column cs) (length cs) c ≡ column (cs ++ (c ∷ []))
 unfolding column
-column_step number cs room true c = first_more number most cs room c
-column_step number cs room false c = first_same number most cs room ∙ ap (first number most) (sym (append-nil cs))
+column_more cs room c =
+    is_listed (λ j. get_or (cs ++ (c ∷ [])) j no_change) no_change most (set (column cs) (length cs) c) (length-set (column cs) (length cs) c ∙ length_listed (λ j. get_or cs j no_change) most)
+    (λ k h. ⊎_elim (λ p. ⊎_elim (λ e. here k (sym e)) (λ q. behind k q h) (eq-or-lt_of_le p)) (λ p. before k p h) (side k))
+  where
+    side : (k : ℕ) → (length cs ≤ k) ⊎ (k < length cs)
+    side k = elim (dec_le (length cs) k) [ yes p ↦ inl p | no p ↦ inr (lt_of_not-le p) ]
 
--- ---- the three, and how many changes they hold
+    other : (k : ℕ) → k ≢ length cs → k < most → get_or (set (column cs) (length cs) c) k no_change ≡ get_or cs k no_change
+    other k d h = get_or-set_other (column cs) (length cs) k c no_change d ∙ get_d_listed (λ j. get_or cs j no_change) no_change most k h
 
-pub record Holds (cs : List Change) (places : List ℕ) (olds news : List ℤ) (count : ℕ) : Type 0 where
-  pub places_are : places ≡ column (λ c. c.place) cs
-  pub olds_are : olds ≡ column (λ c. c.old) cs
-  pub news_are : news ≡ column (λ c. c.new) cs
+    here : (k : ℕ) → k ≡ length cs → get_or (set (column cs) (length cs) c) k no_change ≡ get_or (cs ++ (c ∷ [])) k no_change
+    here k e = rw e (get_or-set_same (column cs) (length cs) c no_change (omega (arith, length_listed (λ j. get_or cs j no_change) most)) ∙ sym (get_or-append_seam cs c [] no_change))
+
+    before : (k : ℕ) → k < length cs → k < most → get_or (set (column cs) (length cs) c) k no_change ≡ get_or (cs ++ (c ∷ [])) k no_change
+    before k p h = other k (λ e. omega arith) h ∙ sym (get_or-append cs (c ∷ []) no_change k p)
+
+    behind : (k : ℕ) → length cs < k → k < most → get_or (set (column cs) (length cs) c) k no_change ≡ get_or (cs ++ (c ∷ [])) k no_change
+    behind k p h =
+        other k (λ e. omega arith) h
+        ∙ get_or-eq_default cs no_change {n = k} (omega arith)
+        ∙ sym (get_or-eq_default (cs ++ (c ∷ [])) no_change {n = k} (omega (arith, length-append cs (c ∷ []))))
+
+-- ---- and how many it holds
+
+pub record Holds (cs changes : List Change) (count : ℕ) : Type 0 where
+  pub changes_are : changes ≡ column cs
   pub count_is : count ≡ length cs
 
-pub holds_more : {cs : List Change} {places : List ℕ} {olds news : List ℤ} {n k : ℕ} (t : Bool) (c : Change) {r : Change}
-    → Holds cs places olds news n → n < most → r ≡ cond t c no_change → k ≡ cond t 1 0
-    → Holds (cs ++ cond t (c ∷ []) []) (set places n r.place) (set olds n r.old) (set news n r.new) (n + k)
-holds_more {cs} {k = k} t c h room e q =
+pub holds_more : {cs changes : List Change} {n : ℕ} (c : Change) → Holds cs changes n → n < most → Holds (cs ++ (c ∷ [])) (set changes n c) (n + 1)
+holds_more {cs} c h room =
     record {
-      places_are = rw (h.places_are, h.count_is, e) (column_step (λ c. c.place) cs few t c);
-      olds_are = rw (h.olds_are, h.count_is, e) (column_step (λ c. c.old) cs few t c);
-      news_are = rw (h.news_are, h.count_is, e) (column_step (λ c. c.new) cs few t c);
-      count_is = rw (h.count_is, q) (sym (length-append cs _ ∙ ap (λ n. length cs + n) (one t)));
+      changes_are = rw (h.changes_are, h.count_is) (column_more cs (omega (arith, h.count_is)) c);
+      count_is = omega (arith, h.count_is, length-append cs (c ∷ []));
     }
-  where
-    few : length cs < most
-    few = omega (arith, h.count_is)
 
-    one : (t : Bool) → length (cond t (c ∷ []) []) ≡ cond t 1 0
-    one true = refl
-    one false = refl
+-- the next knot is a hole, or not
+module _ (ys zs : List ℤ) (i : ℕ) {changes changes' : List Change} {n n' : ℕ} (h : Holds (changes_to ys zs i) changes n) where
+  pub holds_hole : {c : Change} → n < most → hole_at ys i ≡ true → c ≡ change_at ys zs i → changes' ≡ set changes n c → n' ≡ n + 1 → Holds (changes_to ys zs (i + 1)) changes' n'
+  holds_hole room hole e is more = rw (changes_more ys zs i, hole, is, e, more) (holds_more (change_at ys zs i) h room)
+
+  pub holds_sound : hole_at ys i ≡ false → changes' ≡ changes → n' ≡ n → Holds (changes_to ys zs (i + 1)) changes' n'
+  holds_sound sound is same = rw (changes_more ys zs i, sound, is, same, append-nil) h

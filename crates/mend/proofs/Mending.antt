@@ -4,7 +4,7 @@ use native.Mathlib.Omega.{arith}
 use mathlib.Core.Path.{◌≡◌, refl, sym, ap, subst, ◌∙◌}
 use mathlib.Core.List.{List, ◌++◌}
 use borrow.Author.Tests.{ltb-false}
-use lib.IntN.{ℤ, pos}
+use lib.IntN.{ℤ}
 use lib.ListN.{length, get_or, drop}
 use Rattle.answer.specs.Answer.{Answer, refused, given, Verdict, accepted, ◌then◌, number, place}
 use Rattle.answer.proofs.Steps.{first_accepts, next_accepts, refuse_accepts}
@@ -53,8 +53,7 @@ module _ (xs : List ℕ) (ys : List ℤ) (ms Ms room : ℕ) where
 
 planned_at : (n p : ℕ) (cs : List Change) (j : ℕ) → j < most → planned (plan_of n p cs) j ≡ get_or cs j no_change
 unfolding column
-planned_at n p cs j h =
-    simp (get_d_listed (λ j. (get_or cs j no_change).place) 0 most j h, get_d_listed (λ j. (get_or cs j no_change).old) (pos 0) most j h, get_d_listed (λ j. (get_or cs j no_change).new) (pos 0) most j h)
+planned_at n p cs j h = get_d_listed (λ j. get_or cs j no_change) no_change most j h
 
 listed_plan : (n p : ℕ) (cs : List Change) → length cs ≤ most → listed (planned (plan_of n p cs)) (length cs) ≡ cs
 listed_plan n p cs h = listed_is no_change (planned (plan_of n p cs)) cs refl refl (λ j k. planned_at n p cs j (omega (arith, h, k)))

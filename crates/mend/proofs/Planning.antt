@@ -21,15 +21,23 @@ use Rattle.holes.specs.Hole.{mended}
 use Rattle.mend.specs.declared.Change.{Change}
 use Rattle.mend.specs.declared.Plan.{Plan}
 use Rattle.mend.specs.Order.{mendable, mend_order, mend}
-use Rattle.mend.specs.Promise.{made, ordinates_after, plan_of, Plans}
+use Rattle.mend.specs.Promise.{made, ordinates_after, plan_of, plan_in, Plans}
+use Rattle.std.specs.Prelude.{Result, Err, IsErrAnd}
+use Rattle.std.proofs.lemmas.Result.{err_from_is_err_and}
+use Rattle.answer.specs.Judge.{Judged, number_of}
+use Rattle.answer.specs.declared.Refusal.{Refusal}
+use Rattle.answer.specs.declared.Reason.{Reason}
+use Rattle.fit.specs.Promise.{fitted_of}
 
 module _ {cs : List Change} {ys ms Ms ys' ms' Ms' : List ℤ} {p : Plan} where
   pub plans_along : {mend mend' : Answer Card} → mend ≡ mend' → Plans mend cs ys ms Ms ys' ms' Ms' p → Plans mend' cs ys ms Ms ys' ms' Ms' p
   plans_along e h = subst (λ a. Plans a cs ys ms Ms ys' ms' Ms' p) e h
 
-pub plans_refused : {cs : List Change} {n place : ℕ} {ys ms Ms : List ℤ} {p : Plan} → p ≡ plan_of n place [] → Plans (refused n place) cs ys ms Ms ys ms Ms p
+-- what a `?` leaves
+pub plans_exit : {mend : Answer Card} {cs : List Change} {ys ms Ms : List ℤ} (r : Result Plan Refusal) (e : Refusal)
+    → IsErrAnd r (λ d. d ≡ e) → refused (number_of e.reason) e.place ≡ mend → Plans mend cs ys ms Ms ys ms Ms (plan_in r)
 unfolding number place
-plans_refused e = record { plan = e; ordinates = refl; slopes = refl; curvatures = refl }
+plans_exit r e h q = let p = err_from_is_err_and r h in rw (p.1, p.2, ← q) (record { plan = refl; ordinates = refl; slopes = refl; curvatures = refl })
 
 -- ---- the order, in the groups in which the code goes through it
 
@@ -43,6 +51,35 @@ pub in_groups : (xs : List ℕ) (ys : List ℤ) (ms Ms room : ℕ)
     → ((lengths (length xs) (length ys) ms Ms then counted quintic (length xs) then accepted) then mendable xs ys room then fit_between xs (mended xs ys) ms Ms Free Free) ≡ mend xs ys ms Ms room
 unfolding mend mend_order
 in_groups xs ys ms Ms room = regroup _ _ _ _
+
+-- a refusal has a number
+numbered : (r : Reason) → number_of r ≢ 0
+numbered Reason.FewKnots e = cc
+numbered Reason.ManyKnots e = cc
+numbered Reason.OddLengths e = cc
+numbered Reason.NotRising e = cc
+numbered Reason.WideGap e = cc
+numbered Reason.FarOrdinate e = cc
+numbered Reason.UnfitEnd e = cc
+numbered Reason.Stuck e = cc
+numbered Reason.OutOfRange e = cc
+numbered Reason.Jump e = cc
+numbered Reason.Outside e = cc
+numbered Reason.Meaningless e = cc
+numbered Reason.NoGoodByte e = cc
+numbered Reason.BadRecord e = cc
+numbered Reason.UnknownCode e = cc
+numbered Reason.LogLength e = cc
+numbered Reason.Stranded e = cc
+numbered Reason.FewPlaces e = cc
+numbered Reason.LateMiddle e = cc
+numbered Reason.NoRoom e = cc
+numbered Reason.FullBook e = cc
+numbered Reason.UnsortedRoom e = cc
+numbered Reason.FewGoodBytes e = cc
+numbered Reason.ManyValues e = cc
+numbered Reason.UnfitParts e = cc
+numbered Reason.ShortBuffer e = cc
 
 -- ---- the fit of the mended sheet
 
@@ -70,3 +107,11 @@ module _ (xs : List ℕ) (zs ms Ms : List ℤ) where
         go : (v : Answer Card) → number v ≢ 0 → (plan_of (number v) (place v) [] ≡ plan_of (number v) (place v) (made v cs)) × (ys ≡ ordinates_after v ys)
         go (refused m q) n = (refl, refl)
         go (given card) n = absurd (n refl)
+
+    -- what a `?` behind the fit leaves
+    pub plans_unfitted_exit : {j : Judged} → r ≡ fitted_of j → (e : Refusal) → j ≡ Err e → (out : Result Plan Refusal) → IsErrAnd out (λ d. d ≡ e) → p ≡ plan_in out → Plans fit cs ys ms Ms ys ms' Ms' p
+    unfolding number place
+    plans_unfitted_exit is e was out h q =
+        let x = err_from_is_err_and out h in
+        let r-is = is ∙ ap fitted_of was in
+        plans_unfitted (λ z. numbered e.reason (sym (ap (λ f. f.number) r-is) ∙ z)) (q ∙ ap plan_in (x.1 ∙ ap Err x.2) ∙ sym (ap (λ f. plan_of f.number f.place []) r-is))

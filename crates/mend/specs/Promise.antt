@@ -1,7 +1,9 @@
 -- What mending leaves its caller: number, place and count, and each lent list at exit. "A refusal returns zeros beside number and place, and writes to no lent list" (document 01, "Numbers of
 -- refusal"); "if that fit is refused, sheet and list stay untouched" (document 02, order 1). Assumes nothing.
-use Rattle.std.specs.Prelude.{ℕ, ◌≡◌, List, [], ◌++◌, ℤ, pos, length, get_or, drop}
+use Rattle.std.specs.Prelude.{ℕ, ◌≡◌, List, [], ◌++◌, ℤ, pos, length, get_or, drop, Result, Ok, Err}
 use Rattle.answer.specs.Answer.{Answer, refused, given, number, place}
+use Rattle.answer.specs.Judge.{number_of}
+use Rattle.answer.specs.declared.Refusal.{Refusal}
 use Rattle.curve.specs.Card.{Card}
 use Rattle.front.specs.Front.{listed}
 use Rattle.fit.specs.Promise.{slopes_after, curvatures_after}
@@ -39,13 +41,17 @@ pub record Mends (mend : Answer Card) (cs : List Change) (ys ms Ms : List ℤ) (
 abbrev pub no_change : Change
 no_change = record { place = 0; old = pos 0; new = pos 0 }
 
--- one of their numbers in an array, zeros behind it
-unfoldable pub column : {A : Type 0} → (Change → A) → List Change → List A
-column number cs = listed (λ j. number (get_or cs j no_change)) most
+-- the changes in an array, zeros behind them
+unfoldable pub column : List Change → List Change
+column cs = listed (λ j. get_or cs j no_change) most
 
 abbrev pub plan_of : (number place : ℕ) → List Change → Plan
-plan_of number place cs =
-    record { number = number; place = place; count = length cs; places = column (λ c. c.place) cs; olds = column (λ c. c.old) cs; news = column (λ c. c.new) cs }
+plan_of number place cs = record { number = number; place = place; count = length cs; changes = column cs }
+
+-- of what the code answers inside
+abbrev pub plan_in : Result Plan Refusal → Plan
+plan_in (Ok plan) = plan
+plan_in (Err e) = plan_of (number_of e.reason) e.place []
 
 pub record Plans (mend : Answer Card) (cs : List Change) (ys ms Ms ys' ms' Ms' : List ℤ) (p : Plan) : Type 0 where
   pub plan : p ≡ plan_of (number mend) (place mend) (made mend cs)
@@ -57,7 +63,7 @@ pub record Plans (mend : Answer Card) (cs : List Change) (ys ms Ms ys' ms' Ms' :
 
 -- the change that a plan has at a place
 abbrev pub planned : Plan → ℕ → Change
-planned p j = record { place = get_or p.places j 0; old = get_or p.olds j (pos 0); new = get_or p.news j (pos 0) }
+planned p j = get_or p.changes j no_change
 
 -- what a plan says without its changes
 abbrev pub told : Plan → Mended

@@ -7,15 +7,16 @@
 ghost use Rattle.std.specs.Prelude.{◌≡◌, ◌<◌, ◌≤◌, length};
 ghost use Rattle.std.proofs.Math.IntN.{ℤ_discrete};
 ghost use Rattle.knots.specs.Kinds.{kind_of};
-ghost use Rattle.decode.specs.Decoded.{most, decoded, Full};
+ghost use Rattle.knots.specs.Lent.{card_lent};
+ghost use Rattle.lists.specs.Lists.{Long};
+ghost use Rattle.decode.specs.Decoded.{most};
 ghost use Rattle.fit.specs.Promise.{Fits};
 ghost use Rattle.slope_fit.specs.SlopesFit.{slopes_fit};
 ghost use Rattle.refit.specs.Differing.{differing};
 ghost use Rattle.refit.specs.Fresh.{fresh_between, fresh};
 ghost use Rattle.refit.specs.Promise.{changed, Refits, Renews};
 
-use decode::Card;
-use knots::Kind;
+use knots::{Kind, Lent};
 use lines::hundredths;
 use opened::Opened;
 
@@ -44,86 +45,80 @@ fn differing(held: &[i32], anew: &[i32]) -> u32
 }
 
 // The fresh fit of a card between its ends, to lists of its n places.
-fn fresh_between(card: Card, slopes: &mut [i32], curvatures: &mut [i32]) -> fit::Fitted
-    requires full { Full card × (0 < card.knots) }
-    requires slopes_len { (length slopes.old ≡ card.knots) × (length curvatures.old ≡ card.knots) }
-    ensures { Fits (fresh_between (decoded card)) slopes.old curvatures.old slopes.new curvatures.new result }
+#[tactic(auto, unfolding(crate::specs::Fresh::fresh_between, curve::specs::Card::knots, curve::specs::Card::knot))]
+fn fresh_between(held: Lent<'_>, slopes: &mut [i32], curvatures: &mut [i32]) -> fit::Fitted
+    requires long { Long held.minutes.now held.ordinates.now held.slopes.now held.curvatures.now }
+    requires some { 0 < length held.minutes.now }
+    requires slopes_len { (length slopes.old ≡ length held.minutes.now) × (length curvatures.old ≡ length held.minutes.now) }
+    ensures { Fits (fresh_between (card_lent held.entry)) slopes.old curvatures.old slopes.new curvatures.new result }
 {
-    let n = card.knots;
-    let last = n - 1;
-    let minutes = card.minutes;
-    let ordinates = card.ordinates;
-    let m = card.slopes;
-    let c = card.curvatures;
+    let last = held.minutes.len() - 1;
     fit::fit_codes(
-        &minutes[..n],
-        &ordinates[..n],
+        held.minutes,
+        held.ordinates,
         slopes,
         curvatures,
-        card.left,
-        hundredths(m[0]),
-        hundredths(c[0]),
-        card.right,
-        hundredths(m[last]),
-        hundredths(c[last]),
+        held.left,
+        hundredths(held.slopes[0]),
+        hundredths(held.curvatures[0]),
+        held.right,
+        hundredths(held.slopes[last]),
+        hundredths(held.curvatures[last]),
     )
 }
 
 // Of its curvatures alone, by its own slopes, which are given back.
-fn fresh_by_slopes(card: Card, slopes: &mut [i32], curvatures: &mut [i32]) -> fit::Fitted
-    requires full { Full card }
-    requires slopes_len { (length slopes.old ≡ card.knots) × (length curvatures.old ≡ card.knots) }
-    ensures { Fits (slopes_fit (decoded card).minutes (decoded card).ordinates (decoded card).slopes (length curvatures.old))
+fn fresh_by_slopes(held: Lent<'_>, slopes: &mut [i32], curvatures: &mut [i32]) -> fit::Fitted
+    requires { length slopes.old ≡ length held.slopes.now }
+    ensures { Fits (slopes_fit held.entry.minutes.now held.entry.ordinates.now held.entry.slopes.now (length curvatures.old))
         slopes.old curvatures.old slopes.new curvatures.new result }
 {
-    let n = card.knots;
-    let minutes = card.minutes;
-    let ordinates = card.ordinates;
-    let own = card.slopes;
-    let fitted = slope_fit::fit(&minutes[..n], &ordinates[..n], &own[..n], curvatures);
+    let fitted = slope_fit::fit(held.minutes, held.ordinates, held.slopes, curvatures);
     if fitted.number == 0 {
-        numbers::write(slopes, own);
+        slopes.copy_from_slice(held.slopes);
     }
     fitted
 }
 
 // As the card's kind is fitted.
-fn fresh(kind: Kind, card: Card, slopes: &mut [i32], curvatures: &mut [i32]) -> fit::Fitted
-    requires full { Full card × (0 < card.knots) }
-    requires slopes_len { (length slopes.old ≡ card.knots) × (length curvatures.old ≡ card.knots) }
-    ensures { Fits (fresh (kind_of kind) (decoded card)) slopes.old curvatures.old slopes.new curvatures.new result }
+fn fresh(kind: Kind, held: Lent<'_>, slopes: &mut [i32], curvatures: &mut [i32]) -> fit::Fitted
+    requires long { Long held.minutes.now held.ordinates.now held.slopes.now held.curvatures.now }
+    requires some { 0 < length held.minutes.now }
+    requires slopes_len { (length slopes.old ≡ length held.minutes.now) × (length curvatures.old ≡ length held.minutes.now) }
+    ensures { Fits (fresh (kind_of kind) (card_lent held.entry)) slopes.old curvatures.old slopes.new curvatures.new result }
 {
     if kind.fourth {
-        return fresh_between(card, slopes, curvatures);
+        return fresh_between(held, slopes, curvatures);
     }
-    fresh_by_slopes(card, slopes, curvatures)
+    fresh_by_slopes(held, slopes, curvatures)
 }
 
 // How many of a card's numbers are not those of two lists of its n places.
-fn changed(card: Card, slopes: &[i32], curvatures: &[i32]) -> u32
-    requires full { Full card }
-    requires slopes_len { (length slopes.now ≡ card.knots) × (length curvatures.now ≡ card.knots) }
-    ensures { result ≡ changed (decoded card) slopes.now curvatures.now }
+#[tactic(auto, unfolding(crate::specs::Promise::changed))]
+fn changed(held: Lent<'_>, slopes: &[i32], curvatures: &[i32]) -> u32
+    requires few { length held.minutes.now ≤ most }
+    requires long { Long held.minutes.now held.ordinates.now held.slopes.now held.curvatures.now }
+    requires slopes_len { (length slopes.now ≡ length held.minutes.now) × (length curvatures.now ≡ length held.minutes.now) }
+    ensures { result ≡ changed (card_lent held.entry) slopes.now curvatures.now }
 {
-    let n = card.knots;
-    let held_slopes = card.slopes;
-    let held_curvatures = card.curvatures;
-    differing(&held_slopes[..n], slopes) + differing(&held_curvatures[..n], curvatures)
+    differing(held.slopes, slopes) + differing(held.curvatures, curvatures)
 }
 
 // The fit's own refusals; the numbers are written and counted where it has none.
-fn anew(kind: Kind, card: Card, slopes: &mut [i32], curvatures: &mut [i32]) -> Refitted
-    requires full { Full card × (0 < card.knots) }
-    requires slopes_len { (length slopes.old ≡ card.knots) × (length curvatures.old ≡ card.knots) }
-    ensures { Renews (kind_of kind) (decoded card) slopes.old curvatures.old slopes.new curvatures.new result }
+fn anew(kind: Kind, held: Lent<'_>, slopes: &mut [i32], curvatures: &mut [i32]) -> Refitted
+    requires few { length held.minutes.now ≤ most }
+    requires long { Long held.minutes.now held.ordinates.now held.slopes.now held.curvatures.now }
+    requires some { 0 < length held.minutes.now }
+    requires slopes_len { (length slopes.old ≡ length held.minutes.now) × (length curvatures.old ≡ length held.minutes.now) }
+    ensures { Renews (kind_of kind) (card_lent held.entry) slopes.old curvatures.old slopes.new curvatures.new result }
 {
-    let fitted = fresh(kind, card, slopes, curvatures);
+    let fitted = fresh(kind, held, slopes, curvatures);
     if fitted.number == 0 {
         return Refitted {
             number: 0,
             place: 0,
-            knots: card.knots as u32,
-            changed: changed(card, slopes, curvatures),
+            knots: held.minutes.len() as u32,
+            changed: changed(held, slopes, curvatures),
         };
     }
     Refitted {
@@ -139,9 +134,7 @@ pub fn refit(card: &[u8], slopes: &mut [i32], curvatures: &mut [i32]) -> Refitte
     ensures { Refits card.now slopes.old curvatures.old slopes.new curvatures.new result }
 {
     let opened = Opened::by_head(card);
-    let kind = opened.kind;
-    let held = opened.card;
-    let n = held.knots;
+    let n = opened.card.knots;
     let lent = slopes.len();
     match card::into(&opened, lent, lent, lent, curvatures.len()) {
         Err(refusal) => Refitted {
@@ -150,6 +143,9 @@ pub fn refit(card: &[u8], slopes: &mut [i32], curvatures: &mut [i32]) -> Refitte
             knots: 0,
             changed: 0,
         },
-        Ok(()) => anew(kind, held, &mut slopes[..n], &mut curvatures[..n]),
+        Ok(()) => {
+            let held = opened.card.lent();
+            anew(opened.kind, held, &mut slopes[..n], &mut curvatures[..n])
+        }
     }
 }

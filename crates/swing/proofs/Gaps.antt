@@ -92,15 +92,15 @@ module _ {xs : List ℕ} {ys ms cs : List ℤ} (k : Checked xs ys ms cs) (j : �
 
   -- ---- what is beyond them
 
-  -- at the next minute before the right knot, as the code has the ordinates and the reading
-  module _ (t : ℕ) (l : t + 1 < x' - x) {r : Reading} (e : r ≡ shown (spell_of card j (x + (t + 1)))) {y y' v : ℤ} (p : y ≡ get_or ys j (pos 0)) (p' : y' ≡ get_or ys (j + 1) (pos 0)) (q : v ≡ r.value) where
-    pub low_on : {low low' : Reach} {n : ℕ} → low ≡ reached (below_at card j) t → n ≡ below y y' v → low' ≡ further low n (t + 1) → low' ≡ reached (below_at card j) (t + 1)
+  -- at a minute between the knots, as the code has the ordinates and the reading
+  module _ (t : ℕ) (some : 1 ≤ t) (l : t < x' - x) {r : Reading} (e : r ≡ shown (spell_of card j (x + t))) {y y' v : ℤ} (p : y ≡ get_or ys j (pos 0)) (p' : y' ≡ get_or ys (j + 1) (pos 0)) (q : v ≡ r.value) where
+    pub low_on : {low low' : Reach} {n : ℕ} → low ≡ reached (below_at card j) (t - 1) → n ≡ below y y' v → low' ≡ further low n t → low' ≡ reached (below_at card j) t
     unfolding below_at knot
-    low_on f g h = h ∙ ap₂ (λ r n. further r n (t + 1)) f (g ∙ rw (p, p', q, reads_there (t + 1) l e)) ∙ reaches_on (below_at card j) t
+    low_on f g h = h ∙ ap₂ (λ r n. further r n t) f (g ∙ rw (p, p', q, reads_there t l e)) ∙ reaches_on (below_at card j) t some
 
-    pub high_on : {high high' : Reach} {n : ℕ} → high ≡ reached (above_at card j) t → n ≡ above y y' v → high' ≡ further high n (t + 1) → high' ≡ reached (above_at card j) (t + 1)
+    pub high_on : {high high' : Reach} {n : ℕ} → high ≡ reached (above_at card j) (t - 1) → n ≡ above y y' v → high' ≡ further high n t → high' ≡ reached (above_at card j) t
     unfolding above_at knot
-    high_on f g h = h ∙ ap₂ (λ r n. further r n (t + 1)) f (g ∙ rw (p, p', q, reads_there (t + 1) l e)) ∙ reaches_on (above_at card j) t
+    high_on f g h = h ∙ ap₂ (λ r n. further r n t) f (g ∙ rw (p, p', q, reads_there t l e)) ∙ reaches_on (above_at card j) t some
 
   pub low_start : ◌≡◌ {A = Reach} (record { by = 0; at = 0 }) (reached (below_at card j) 0)
   unfolding below_at knot peak

@@ -2,7 +2,7 @@
 -- and before it smaller. Assumes nothing.
 use mathlib.Core.Path.{◌≡◌, refl, sym, ap, ◌∙◌, subst}
 use mathlib.Core.Bool.{Bool, true, false, cond}
-use Prim.Native.Nat.{ℕ, zero, suc, ◌+◌, ◌≤◌, ◌<◌}
+use Prim.Native.Nat.{ℕ, zero, suc, ◌+◌, ◌-◌, ◌≤◌, ◌<◌}
 use native.Mathlib.Nat.{le_refl}
 use native.Mathlib.Numerals.{add-one}
 use native.Mathlib.Decide.{ℕ_discrete}
@@ -57,13 +57,19 @@ keeps f of n = ap (λ k. cond (ltb (f (peak f n)) (f k)) (of k) (of (peak f n)))
 abbrev pub reached : (ℕ → ℕ) → ℕ → Reach
 reached f n = record { by = f (peak f n); at = peak f n }
 
-pub reaches_on : (f : ℕ → ℕ) (n : ℕ) → further (reached f n) (f (n + 1)) (n + 1) ≡ reached f (n + 1)
+pub reaches_on : (f : ℕ → ℕ) (n : ℕ) → 1 ≤ n → further (reached f (n - 1)) (f n) n ≡ reached f n
 unfolding further
-reaches_on f n = keeps f (λ i. record { by = f i; at = i }) n
+reaches_on f zero h = absurd (omega arith)
+reaches_on f (suc n) h =
+    let back : suc n - 1 ≡ n = omega arith in
+    rw back (subst (λ k. further (reached f n) (f k) k ≡ reached f k) (add-one n) (keeps f (λ i. record { by = f i; at = i }) n))
 
 abbrev pub widest_so_far : (ℕ → GapSwing) → ℕ → AtKnot
 widest_so_far g n = let p = peak (λ j. furthest (g j)) n in record { knot = p; gap = g p }
 
-pub widest_on : (g : ℕ → GapSwing) (n : ℕ) {w w' : AtKnot} {next : GapSwing} → w ≡ widest_so_far g n → next ≡ g (n + 1) → w' ≡ wider w (n + 1) next → w' ≡ widest_so_far g (n + 1)
+pub widest_on : (g : ℕ → GapSwing) (n : ℕ) {w w' : AtKnot} {next : GapSwing} → 1 ≤ n → w ≡ widest_so_far g (n - 1) → next ≡ g n → w' ≡ wider w n next → w' ≡ widest_so_far g n
 unfolding wider
-widest_on g n e q h = h ∙ rw (e, q) (keeps (λ j. furthest (g j)) (λ i. record { knot = i; gap = g i }) n)
+widest_on g zero some e q h = absurd (omega arith)
+widest_on g (suc n) some e q h =
+    let back : suc n - 1 ≡ n = omega arith in
+    h ∙ rw (e, q, back) (subst (λ k. wider (widest_so_far g n) k (g k) ≡ widest_so_far g k) (add-one n) (keeps (λ j. furthest (g j)) (λ i. record { knot = i; gap = g i }) n))

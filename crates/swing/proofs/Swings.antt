@@ -5,7 +5,7 @@ use native.Mathlib.Nat.{le_of_lt}
 use native.Mathlib.Decide.{dec_lt}
 use native.Mathlib.Omega.{arith}
 use borrow.Author.Tests.{lt-ltb, le-ltb}
-use Rattle.answer.specs.Answer.{Verdict, refused, accepted}
+use Rattle.answer.specs.Answer.{Verdict, accepted}
 use Rattle.curve.specs.Card.{Card, knots, knot, gap}
 use Rattle.swing.specs.declared.Swung.{Swung}
 use Rattle.swing.specs.declared.AtKnot.{AtKnot}
@@ -91,10 +91,6 @@ module _ (c : Card) (j : ℕ) where
 pub knot_inside : (c : Card) {w : AtKnot} → w ≡ widest_of c → w.knot ≤ knots c - 2
 unfolding widest_of
 knot_inside c e = omega (arith, ap (λ w. w.knot) e, (widest_is c).inside)
-
-pub swung_refused : {v : Verdict} (c : Card) {n p : ℕ} → v ≡ refused n p → ◌≡◌ {A = Swung} (record { number = n; place = p; knot = 0; minute = 0; below = 0; above = 0 }) (swung v c)
-unfolding swung
-swung_refused c e = rw e
 
 pub swung_given : {v : Verdict} {c d : Card} {w : AtKnot} {m : ℕ} → v ≡ accepted → d ≡ c → w ≡ widest_of d → m ≡ first_minute w.gap
     → ◌≡◌ {A = Swung} (record { number = 0; place = 0; knot = w.knot; minute = m; below = w.gap.below; above = w.gap.above }) (swung v c)

@@ -5,21 +5,24 @@
 #![tactic(auto)]
 
 ghost use Rattle.std.specs.Prelude.{◌≡◌, ◌+◌, ◌≤◌, ◌<◌, min, length, ◌-ℤ◌};
+ghost use Rattle.answer.specs.Answer.{refused};
+ghost use Rattle.answer.specs.Judge.{number_of};
+ghost use Rattle.curve.specs.Card as Held;
 ghost use Rattle.knots.specs.Lent.{lent};
-ghost use Rattle.lists.specs.Lists.{Checked};
 ghost use Rattle.decode.specs.Decoded.{decoded};
 ghost use Rattle.opened.specs.Readable.{Readable};
 ghost use Rattle.card_bytes.specs.Held.{card_of};
 ghost use Rattle.card.specs.Answers.{own};
 ghost use Rattle.swing.specs.Swing.{surplus, below, above, gap_swing, furthest, first_minute, swung, further, wider, widest_of};
 
-use answer::Judged;
+use answer::Refusal;
 use decode::Card;
+use lists::Lists;
 use opened::Opened;
 
 // How far the curve of a card goes beyond the knots of the gap that goes furthest: the gap's left knot, the
 // first minute at which the curve is so far beyond, and how far it goes below the lower and above the higher
-// of the gap's two knots. Zeros behind a refusal.
+// of the gap's two knots. Zeros behind a refusal. What C is told.
 #[repr(C)]
 #[derive(Clone, Copy)]
 pub struct Swung {
@@ -29,6 +32,22 @@ pub struct Swung {
     pub minute: u32,
     pub below: u32,
     pub above: u32,
+}
+
+#[tactic(auto, unfolding(crate::specs::Swing::swung))]
+impl From<Refusal> for Swung {
+    ghost from_gives = { λ r answer. (held : Held.Card) → answer ≡ swung (refused (number_of r.reason) r.place) held };
+
+    fn from(refusal: Refusal) -> Swung {
+        Swung {
+            number: refusal.number(),
+            place: refusal.place,
+            knot: 0,
+            minute: 0,
+            below: 0,
+            above: 0,
+        }
+    }
 }
 
 // The same of one gap, with the first minute for either side: the left knot's, where the curve stays within.
@@ -43,36 +62,27 @@ pub struct GapSwing {
 // ---- a value
 
 // What one number is more than another; 0 where it is not.
+#[tactic(auto, using(std::proofs::lemmas::Int::ints, crate::proofs::Beyond::surplus_none, crate::proofs::Beyond::surplus_is))]
 fn surplus(a: i32, b: i32) -> u32
     ensures { result ≡ surplus (a -ℤ b) }
 {
-    if a <= b {
-        return 0;
-    }
-    (a as i64 - b as i64) as u32
-}
-
-fn least(a: u32, b: u32) -> u32
-    ensures { result ≡ min a b }
-{
-    if b < a {
-        return b;
-    }
-    a
+    if b < a { a.abs_diff(b) } else { 0 }
 }
 
 // How far a value is below both of two ordinates.
+#[tactic(auto, using(std::proofs::lemmas::Int::ints), unfolding(crate::specs::Swing::below))]
 fn below(y: i16, z: i16, value: i32) -> u32
     ensures { result ≡ below y z value }
 {
-    least(surplus(y as i32, value), surplus(z as i32, value))
+    surplus(y as i32, value).min(surplus(z as i32, value))
 }
 
 // And how far above both.
+#[tactic(auto, using(std::proofs::lemmas::Int::ints), unfolding(crate::specs::Swing::above))]
 fn above(y: i16, z: i16, value: i32) -> u32
     ensures { result ≡ above y z value }
 {
-    least(surplus(value, y as i32), surplus(value, z as i32))
+    surplus(value, y as i32).min(surplus(value, z as i32))
 }
 
 // ---- a gap
@@ -86,6 +96,7 @@ struct Reach {
 
 impl Reach {
     // Or at a later minute, where it is further there.
+    #[tactic(auto, unfolding(crate::specs::Swing::further))]
     fn or(self, by: u32, at: u16) -> Reach
         ensures { result ≡ further self by at }
     {
@@ -97,21 +108,18 @@ impl Reach {
 }
 
 // Of the gap from place j: at the minutes between its knots.
-fn gap_on(xs: &[u16], ys: &[i16], ms: &[i32], cs: &[i32], j: usize) -> GapSwing
-    requires checked { Checked xs.now ys.now ms.now cs.now }
-    requires j_in_bounds { j + 1 < length xs.now }
-    ensures { result ≡ gap_swing (lent xs.now ys.now ms.now cs.now 0 0) j }
+fn gap_on(lists: Lists, j: usize) -> GapSwing
+    requires { j + 1 < length lists.minutes.now }
+    ensures { result ≡ gap_swing (lent lists.entry.minutes.now lists.entry.ordinates.now lists.entry.slopes.now lists.entry.curvatures.now 0 0) j }
 {
-    let curve = lists::curve_at(xs, ys, ms, cs, j);
-    let start = xs[j];
-    let h = xs[j + 1] - start;
-    let y = ys[j];
-    let z = ys[j + 1];
+    let curve = lists.curve(j);
+    let start = lists.minutes[j];
+    let h = lists.minutes[j + 1] - start;
+    let y = lists.ordinates[j];
+    let z = lists.ordinates[j + 1];
     let mut low = Reach { by: 0, at: 0 };
     let mut high = Reach { by: 0, at: 0 };
-    let mut t: u16 = 0;
-    while t + 1 < h {
-        t += 1;
+    for t in 1..h {
         let value = curve.value_at(t as i64);
         low = low.or(below(y, z, value), t);
         high = high.or(above(y, z, value), t);
@@ -126,28 +134,24 @@ fn gap_on(xs: &[u16], ys: &[i16], ms: &[i32], cs: &[i32], j: usize) -> GapSwing
 
 // ---- a card
 
+#[tactic(auto, unfolding(crate::specs::Swing::furthest))]
 fn furthest(g: GapSwing) -> u32
     ensures { result ≡ furthest g }
 {
-    if g.below < g.above {
-        return g.above;
-    }
-    g.below
+    g.below.max(g.above)
 }
 
+#[tactic(auto, unfolding(crate::specs::Swing::first_minute))]
 fn first_minute(g: GapSwing) -> u16
     ensures { result ≡ first_minute g }
 {
     if g.above < g.below {
-        return g.lowest;
+        g.lowest
+    } else if g.below < g.above {
+        g.highest
+    } else {
+        g.lowest.min(g.highest)
     }
-    if g.below < g.above {
-        return g.highest;
-    }
-    if g.highest < g.lowest {
-        return g.highest;
-    }
-    g.lowest
 }
 
 // The gap that goes furthest, by the place of its left knot.
@@ -159,59 +163,46 @@ struct AtKnot {
 
 impl AtKnot {
     // Or a later gap, where it goes further.
+    #[tactic(auto, unfolding(crate::specs::Swing::wider))]
     fn or(self, knot: usize, gap: GapSwing) -> AtKnot
         ensures { result ≡ wider self knot gap }
     {
-        let held = self.gap;
-        if furthest(held) < furthest(gap) {
+        if furthest(self.gap) < furthest(gap) {
             return AtKnot { knot, gap };
         }
         self
     }
 }
 
-fn widest_on(xs: &[u16], ys: &[i16], ms: &[i32], cs: &[i32]) -> AtKnot
-    requires checked { Checked xs.now ys.now ms.now cs.now }
-    requires in_bounds { 2 ≤ length xs.now }
-    ensures { result ≡ widest_of (lent xs.now ys.now ms.now cs.now 0 0) }
+fn widest_on(lists: Lists) -> AtKnot
+    requires { 2 ≤ length lists.minutes.now }
+    ensures { result ≡ widest_of (lent lists.entry.minutes.now lists.entry.ordinates.now lists.entry.slopes.now lists.entry.curvatures.now 0 0) }
 {
     let mut widest = AtKnot {
         knot: 0,
-        gap: gap_on(xs, ys, ms, cs, 0),
+        gap: gap_on(lists, 0),
     };
-    let mut j: usize = 0;
-    while j + 2 < xs.len() {
-        j += 1;
-        widest = widest.or(j, gap_on(xs, ys, ms, cs, j));
+    for j in 1..lists.minutes.len() - 1 {
+        widest = widest.or(j, gap_on(lists, j));
     }
     widest
 }
 
 // Of the gap from place j of a sound card.
-pub fn gap(card: Card, j: usize) -> GapSwing
-    requires readable { Readable card }
-    requires j_bound { j + 1 < card.knots }
-    ensures { result ≡ gap_swing (decoded card) j }
+pub fn gap(card: &Card, j: usize) -> GapSwing
+    requires readable { Readable card.now }
+    requires j_bound { j + 1 < card.now.knots }
+    ensures { result ≡ gap_swing (decoded card.now) j }
 {
-    let n = card.knots;
-    let xs = card.minutes;
-    let ys = card.ordinates;
-    let ms = card.slopes;
-    let cs = card.curvatures;
-    gap_on(&xs[..n], &ys[..n], &ms[..n], &cs[..n], j)
+    gap_on(opened::lists(card), j)
 }
 
 // Of the gap of a sound card that goes furthest.
-fn widest(card: Card) -> AtKnot
-    requires { Readable card }
-    ensures { result ≡ widest_of (decoded card) }
+fn widest(card: &Card) -> AtKnot
+    requires { Readable card.now }
+    ensures { result ≡ widest_of (decoded card.now) }
 {
-    let n = card.knots;
-    let xs = card.minutes;
-    let ys = card.ordinates;
-    let ms = card.slopes;
-    let cs = card.curvatures;
-    widest_on(&xs[..n], &ys[..n], &ms[..n], &cs[..n])
+    widest_on(opened::lists(card))
 }
 
 // Of a card's bytes: the card's refusals.
@@ -219,19 +210,10 @@ pub fn swing(card: &[u8]) -> Swung
     ensures { result ≡ swung (own card.now) (card_of card.now) }
 {
     let opened = Opened::by_head(card);
-    let verdict = opened.verdict;
-    let held = opened.card;
-    match verdict {
-        Judged::Refused(number, place) => Swung {
-            number,
-            place,
-            knot: 0,
-            minute: 0,
-            below: 0,
-            above: 0,
-        },
-        Judged::Accepted => {
-            let widest = widest(held);
+    match opened.verdict {
+        Err(refusal) => Swung::from(refusal),
+        Ok(()) => {
+            let widest = widest(&opened.card);
             let gap = widest.gap;
             Swung {
                 number: 0,

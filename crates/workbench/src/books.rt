@@ -1,349 +1,263 @@
 // A book of the rooms' cards: made, listed, a room's card found in it, explained, or put into it, and a room
 // taken out. Argument 3 is the book's file, argument 4 the room, argument 5 the card's file, arguments 6 and
 // 7 what is cared for.
-use crate::arguments::Asked;
-use crate::line::Line;
-use crate::swings::Care;
-use answer::Judged;
-use book::{Slot, Step, Used, Walked};
-use decode::Card;
-use opened::Opened;
-use text::Sheet;
+ghost use Rattle.std.specs.Prelude.{◌-◌, length};
+ghost use Rattle.std.specs.Iterator.{at_most};
 
-// The number with which a book says that it has no such room.
-const ABSENT: u32 = 20;
+use crate::checks::Reach;
+use crate::places::front;
+use crate::source::Source;
+use crate::swings::Care;
+use crate::tell::{Done, Undone};
+use answer::Reason;
+use book::{Step, Used};
+use opened::Opened;
+use std::fmt;
+use std::fmt::{Display, Formatter, Write};
 
 // A closing record alone.
-fn new(rt: HostRuntime) -> u8 {
-    let mut file = io::buffer();
-    let n = crate::host::arg(rt, 3, &mut file);
-    crate::files::make(rt, &file[..n], &[0, 0, 3, 0])
+fn new(rt: HostRuntime) -> Done {
+    let mut buffer = io::buffer();
+    let file = crate::host::arg(rt, 3, &mut buffer);
+    crate::files::make(rt, file, &[0, 0, 3, 0])
 }
 
 // ---- a line for each room
 
 // `3 18 0 1020`: the room, its knots, its first and its last minute.
-fn print_room(rt: HostRuntime, room: u16, card: Card) -> u8 {
-    let knots = Line::new()
-        .count(room as u64)
-        .words(b" ")
-        .count(card.knots as u64);
-    let line = knots
-        .words(b" ")
-        .count(crate::checks::first_minute(card) as u64)
-        .words(b" ")
-        .count(crate::checks::last_minute(card) as u64);
-    line.words(b"\n").print(rt, b"")
+fn list_card(rt: HostRuntime, file: &[u8], room: u16, card: &[u8]) -> Done {
+    let opened = Opened::by_head(card);
+    opened.verdict.map_err(|refusal| {
+        crate::tell::refused_in(rt, file, room, refusal.number(), refusal.place)
+    })?;
+    let card = opened.card;
+    let first = crate::checks::first_minute(card);
+    let last = crate::checks::last_minute(card);
+    crate::tell::line(
+        rt,
+        b"",
+        format_args!("{room} {} {first} {last}", card.knots),
+    )
 }
 
-fn list_card(rt: HostRuntime, file: &[u8], room: u16, bytes: &[u8]) -> u8 {
-    let opened = Opened::by_head(bytes);
-    let verdict = opened.verdict;
-    let card = opened.card;
-    match verdict {
-        Judged::Refused(number, place) => crate::tell::refused_in(file, room, number, place),
-        Judged::Accepted => print_room(rt, room, card),
+// The card in a room's record, behind its head.
+fn card_in(record: &[u8]) -> &[u8] {
+    record.get(6..).unwrap_or(&[])
+}
+
+// The rooms of a book from an offset on, each with its card.
+#[derive(Drop)]
+struct Rooms<'a> {
+    book: &'a [u8],
+    at: usize,
+}
+
+impl<'a> Iterator for Rooms<'a> {
+    type Item = (u16, &'a [u8]);
+
+    ghost remaining = { λ rooms. at_most (length rooms.book.now - rooms.at) };
+
+    fn next(&mut self) -> Option<(u16, &'a [u8])> {
+        let Step::Room { room, next } = book::step_at(self.book, self.at) else {
+            return None;
+        };
+        let record = self.book.get(self.at..next)?;
+        if record.is_empty() {
+            return None;
+        }
+        self.at = next;
+        Some((room, card_in(record)))
     }
 }
 
-#[derive(Drop)]
-struct Listed {
-    status: u8,
-    rooms: usize,
+// Of how many bytes a book may have.
+#[derive(Clone, Copy)]
+struct InUse(u32);
+
+impl Display for InUse {
+    fn fmt<W: Write>(&self, f: &mut Formatter<W>) -> fmt::Result {
+        write!(f, "{} of {} bytes in use", self.0, Used::MOST)
+    }
 }
 
 // Each room of a book that is sound, also behind one whose card is refused.
-fn list_rooms(rt: HostRuntime, file: &[u8], bytes: &[u8]) -> Listed {
-    let mut status = crate::tell::DONE;
-    let mut rooms: usize = 0;
-    let mut at: usize = 0;
-    while at < bytes.len() && status != crate::tell::GONE {
-        let Step::Room { room, next } = book::step_at(bytes, at) else {
-            return Listed { status, rooms };
-        };
-        // a room's record is never shorter than that
-        if next < 6 {
-            return Listed { status, rooms };
+fn list(rt: HostRuntime, book: Source) -> Done {
+    let used = book::check(book.bytes);
+    crate::tell::accepted(rt, book.name, used.number, used.place)?;
+    let mut done = Ok(());
+    let mut count: usize = 0;
+    let rooms = Rooms {
+        book: book.bytes,
+        at: 0,
+    };
+    for (room, card) in rooms {
+        done = done.max(list_card(rt, book.name, room, card));
+        if done == Err(Undone::Gone) {
+            break;
         }
-        if next - 6 < at {
-            return Listed { status, rooms };
-        }
-        let card = crate::rooms::part(bytes, at + 6, next);
-        status = crate::tell::graver(status, list_card(rt, file, room, card));
-        rooms += 1;
-        at = next;
+        count = count.saturating_add(1);
     }
-    Listed { status, rooms }
-}
-
-// ` of 16384 bytes in use`, behind how many.
-fn in_use(line: Line, bytes: u32) -> Line {
-    line.count(bytes as u64)
-        .words(b" of ")
-        .count(Used::MOST as u64)
-        .words(b" bytes in use")
-}
-
-fn list(rt: HostRuntime, file: &[u8], bytes: &[u8]) -> u8 {
-    let used = book::check(bytes);
-    if used.number != 0 {
-        return crate::tell::refused(file, used.number, used.place);
-    }
-    let listed = list_rooms(rt, file, bytes);
-    let line = Line::new()
-        .words(b"ok ")
-        .count(listed.rooms as u64)
-        .words(b", ");
-    let said = in_use(line, used.bytes).words(b"\n").print(rt, b"");
-    crate::tell::graver(listed.status, said)
+    let in_use = InUse(used.bytes);
+    done.max(crate::tell::line(rt, b"", format_args!("ok {count}, {in_use}")))
 }
 
 // ---- a room's card
 
 // What the book itself is refused with is told of the book, 20 and what the card is refused with of the room.
-pub(crate) fn look(file: &[u8], bytes: &[u8], room: u16) -> u8 {
-    let used = book::check(bytes);
-    if used.number != 0 {
-        return crate::tell::refused(file, used.number, used.place);
-    }
-    let spot = book::find(bytes, room);
+pub(crate) fn look<'a>(rt: HostRuntime, book: Source<'a>, room: u16) -> Result<&'a [u8], Undone> {
+    let used = book::check(book.bytes);
+    crate::tell::accepted(rt, book.name, used.number, used.place)?;
+    let spot = book::find(book.bytes, room);
     if spot.number != 0 {
-        return crate::tell::refused_in(file, room, spot.number, spot.place);
+        let (number, place) = (spot.number, spot.place);
+        return Err(crate::tell::refused_in(rt, book.name, room, number, place));
     }
-    crate::tell::DONE
-}
-
-// The card in a room's record. No record stands or reaches beyond the limit of a book.
-fn held(bytes: &[u8], slot: Slot) -> &[u8] {
-    let at = slot.at;
-    let size = slot.size;
-    if Used::MOST < at {
-        return crate::rooms::part(bytes, 0, 0);
-    }
-    if Used::MOST < size {
-        return crate::rooms::part(bytes, 0, 0);
-    }
-    crate::rooms::part(bytes, at + 6, at + size)
+    Ok(book::lookup(book.bytes, room))
 }
 
 // A card is explained whether it is accepted or not; the book's refusals and 20 are told as above.
-pub(crate) fn explain(
-    rt: HostRuntime,
-    name: &[u8],
-    file: &[u8],
-    bytes: &[u8],
-    room: u16,
-    minute: u16,
-) -> u8 {
-    match book::walk(bytes, room) {
-        Walked::Refused(number, place) => crate::tell::refused(file, number, place),
-        Walked::Sound(slot) => {
-            if slot.size == 0 {
-                return crate::tell::refused_in(file, room, ABSENT, 0);
-            }
-            crate::explained::print(rt, name, held(bytes, slot), minute)
-        }
+pub(crate) fn explain(rt: HostRuntime, name: &[u8], book: Source, room: u16, minute: u16) -> Done {
+    let slot = book::walk(book.bytes, room).map_err(|refusal| {
+        crate::tell::refused(rt, book.name, refusal.number(), refusal.place)
+    })?;
+    if slot.size == 0 {
+        let absent = Reason::NoRoom.number();
+        return Err(crate::tell::refused_in(rt, book.name, room, absent, 0));
     }
+    let behind = book.bytes.get(slot.at..).unwrap_or(&[]);
+    let bytes = card_in(front(behind, slot.size));
+    crate::explained::print(rt, Source { name, bytes }, minute)
 }
 
 // A card that goes to standard output goes alone.
-fn save_card(rt: HostRuntime, file: &[u8], room: u16, card: &[u8]) -> u8 {
-    let mut to = io::buffer();
-    let n = crate::host::arg(rt, 5, &mut to);
-    let saved = crate::files::save(rt, &to[..n], card);
-    if saved != crate::tell::DONE || crate::files::is_dash(&to[..n]) {
-        return saved;
+fn save_card(rt: HostRuntime, file: &[u8], room: u16, card: &[u8]) -> Done {
+    let mut buffer = io::buffer();
+    let to = crate::host::arg(rt, 5, &mut buffer);
+    crate::files::save(rt, to, card)?;
+    if crate::files::is_dash(to) {
+        return Ok(());
     }
     list_card(rt, file, room, card)
 }
 
-fn find(rt: HostRuntime, file: &[u8], bytes: &[u8], room: u16, count: usize) -> u8 {
-    let looked = look(file, bytes, room);
-    if looked != crate::tell::DONE {
-        return looked;
-    }
-    let card = book::lookup(bytes, room);
+fn find(rt: HostRuntime, book: Source, room: u16, count: usize) -> Done {
+    let card = look(rt, book, room)?;
     if count < 6 {
-        return list_card(rt, file, room, card);
+        return list_card(rt, book.name, room, card);
     }
-    save_card(rt, file, room, card)
-}
-
-// ---- a book by itself
-
-// `Find` and `Remove` with the room, `Find` with how many arguments there are too.
-#[derive(Drop)]
-enum Job {
-    List,
-    Find(u16, usize),
-    Remove(u16),
-}
-
-fn with(rt: HostRuntime, job: Job) -> u8 {
-    let mut file = io::buffer();
-    let n = crate::host::arg(rt, 3, &mut file);
-    let mut bytes = io::large_buffer();
-    let Ok(k) = crate::files::load(rt, &file[..n], &mut bytes) else {
-        return crate::tell::FAILED;
-    };
-    match job {
-        Job::List => list(rt, &file[..n], &bytes[..k]),
-        Job::Find(room, count) => find(rt, &file[..n], &bytes[..k], room, count),
-        Job::Remove(room) => remove(rt, &file[..n], &mut bytes, k, room),
-    }
+    save_card(rt, book.name, room, card)
 }
 
 // ---- a book that is changed
 
 // The file is made anew with the bytes in use.
-fn save(rt: HostRuntime, file: &[u8], book: &[u8], bytes: u32) -> u8 {
-    crate::files::save(rt, file, crate::tell::front(book, bytes as usize))
-}
-
-// What was done with a room.
-fn done_with(room: u16, what: &[u8]) -> Line {
-    Line::new().words(b": room ").count(room as u64).words(what)
+fn save(rt: HostRuntime, file: &[u8], book: &[u8], bytes: u32) -> Done {
+    crate::files::save(rt, file, front(book, bytes as usize))
 }
 
 // ---- a card put in
 
-// `rooms.book: room 3: put in, 18 knots, minute 0 to 1020, 312 of 16384 bytes in use`.
-fn tell_put(rt: HostRuntime, file: &[u8], room: u16, replaced: bool, card: Card, bytes: u32) -> u8 {
-    let done = if replaced {
-        done_with(room, b": replaced, ")
+// `rooms.book: room 3: put in, 18 knots, minute 0 to 1020, 312 of 16384 bytes in use`. The buffer has room for
+// every book, so that 21 is only ever said of the limit.
+fn put_in(
+    rt: HostRuntime,
+    file: &[u8],
+    book: &mut [u8],
+    done: &str,
+    room: u16,
+    card: &[u8],
+    reach: Reach,
+) -> Done {
+    let used = book_put::put(book, room, card);
+    crate::tell::accepted(rt, file, used.number, used.place)?;
+    save(rt, file, book, used.bytes)?;
+    let in_use = InUse(used.bytes);
+    crate::tell::line(
+        rt,
+        file,
+        format_args!(": room {room}: {done}, {reach}, {in_use}"),
+    )
+}
+
+// The book is judged by its file's own bytes: the zeros behind them in the buffer could end a record that is
+// cut short.
+pub(crate) fn put(rt: HostRuntime, card: Source, room: u16, care: Care) -> Done {
+    let mut buffer = io::buffer();
+    let file = crate::host::arg(rt, 3, &mut buffer);
+    let mut book = io::large_buffer();
+    let bytes = crate::files::load(rt, file, &mut book)?;
+    let used = book::check(bytes);
+    crate::tell::accepted(rt, file, used.number, used.place)?;
+    let done = if book::find(bytes, room).number == Reason::NoRoom.number() {
+        "put in"
     } else {
-        done_with(room, b": put in, ")
+        "replaced"
     };
-    let line = crate::checks::reach(done, card).words(b", ");
-    in_use(line, bytes).words(b"\n").print(rt, file)
-}
-
-// The buffer has room for every book, so that 21 is only ever said of the limit.
-fn put_sound(
-    rt: HostRuntime,
-    file: &[u8],
-    book: &mut [u8],
-    replaced: bool,
-    room: u16,
-    bytes: &[u8],
-    card: Card,
-) -> u8 {
-    let used = book_put::put(book, room, bytes);
-    if used.number != 0 {
-        return crate::tell::refused(file, used.number, used.place);
-    }
-    let saved = save(rt, file, book, used.bytes);
-    if saved != crate::tell::DONE {
-        return saved;
-    }
-    tell_put(rt, file, room, replaced, card, used.bytes)
-}
-
-fn put_judged(
-    rt: HostRuntime,
-    file: &[u8],
-    book: &mut [u8],
-    replaced: bool,
-    room: u16,
-    name: &[u8],
-    bytes: &[u8],
-    care: Care,
-) -> u8 {
-    let opened = Opened::by_head(bytes);
-    let verdict = opened.verdict;
-    let card = opened.card;
-    match verdict {
-        Judged::Refused(number, place) => crate::tell::refused(name, number, place),
-        Judged::Accepted => {
-            let allowed = crate::swings::allow(rt, name, [0; Sheet::MOST], bytes, care);
-            if allowed != crate::tell::DONE {
-                return allowed;
-            }
-            put_sound(rt, file, book, replaced, room, bytes, card)
-        }
-    }
-}
-
-// A card by its name and its bytes. The book is judged by its file's own bytes: the zeros behind them in the
-// buffer could end a record that is cut short.
-pub(crate) fn put(rt: HostRuntime, name: &[u8], card: &[u8], room: u16, care: Care) -> u8 {
-    let mut file = io::buffer();
-    let n = crate::host::arg(rt, 3, &mut file);
-    let mut bytes = io::large_buffer();
-    let Ok(k) = crate::files::load(rt, &file[..n], &mut bytes) else {
-        return crate::tell::FAILED;
-    };
-    let used = book::check(&bytes[..k]);
-    if used.number != 0 {
-        return crate::tell::refused(&file[..n], used.number, used.place);
-    }
-    let replaced = book::find(&bytes[..k], room).number != ABSENT;
-    put_judged(rt, &file[..n], &mut bytes, replaced, room, name, card, care)
+    let opened = Opened::by_head(card.bytes);
+    crate::tell::judged(rt, card.name, opened.verdict)?;
+    crate::swings::allow(rt, card, &[], care)?;
+    let reach = Reach::of(opened.card);
+    put_in(rt, file, &mut book, done, room, card.bytes, reach)
 }
 
 // ---- a room taken out
 
-// `rooms.book: room 9: taken out, 312 of 16384 bytes in use, 16072 free`.
-fn tell_taken(rt: HostRuntime, file: &[u8], room: u16, bytes: u32) -> u8 {
-    let line = in_use(done_with(room, b": taken out, "), bytes).words(b", ");
-    let n = bytes as usize;
-    let free = if n < Used::MOST { Used::MOST - n } else { 0 };
-    line.count(free as u64).words(b" free\n").print(rt, file)
-}
-
-// No card is tested, so that a damaged one can go too.
-fn remove_sound(rt: HostRuntime, file: &[u8], book: &mut [u8], room: u16) -> u8 {
+// `rooms.book: room 9: taken out, 312 of 16384 bytes in use, 16072 free`. No card is tested, so that a damaged
+// one can go too.
+fn take_out(rt: HostRuntime, file: &[u8], book: &mut [u8], room: u16) -> Done {
     let used = book_remove::remove(book, room);
     if used.number != 0 {
-        return crate::tell::refused_in(file, room, used.number, used.place);
+        let (number, place) = (used.number, used.place);
+        return Err(crate::tell::refused_in(rt, file, room, number, place));
     }
-    let saved = save(rt, file, book, used.bytes);
-    if saved != crate::tell::DONE {
-        return saved;
-    }
-    tell_taken(rt, file, room, used.bytes)
+    save(rt, file, book, used.bytes)?;
+    let in_use = InUse(used.bytes);
+    let free = Used::MOST.saturating_sub(used.bytes as usize);
+    crate::tell::line(
+        rt,
+        file,
+        format_args!(": room {room}: taken out, {in_use}, {free} free"),
+    )
 }
 
-// The book is judged by its file's own n bytes, as for a card put in; what is refused then is the room.
-fn remove(rt: HostRuntime, file: &[u8], book: &mut [u8], n: usize, room: u16) -> u8 {
-    let used = book::check(crate::tell::front(book, n));
-    if used.number != 0 {
-        return crate::tell::refused(file, used.number, used.place);
-    }
-    remove_sound(rt, file, book, room)
+// The book is judged by its file's own bytes, as for a card put in; what is refused then is the room.
+fn remove(rt: HostRuntime, room: u16) -> Done {
+    let mut buffer = io::buffer();
+    let file = crate::host::arg(rt, 3, &mut buffer);
+    let mut book = io::large_buffer();
+    let used = book::check(crate::files::load(rt, file, &mut book)?);
+    crate::tell::accepted(rt, file, used.number, used.place)?;
+    take_out(rt, file, &mut book, room)
 }
 
 // ---- which of them is asked for
 
-fn with_room(rt: HostRuntime, word: &[u8], room: u16, count: usize) -> u8 {
-    if crate::arguments::same(word, b"find") {
-        return with(rt, Job::Find(room, count));
-    }
-    if crate::arguments::same(word, b"put") {
-        return crate::cards::put(rt, room);
-    }
-    if crate::arguments::same(word, b"remove") {
-        return with(rt, Job::Remove(room));
-    }
-    crate::tell::FAILED
+// What is done with a book as it stands in its file.
+fn with<F: FnOnce(Source) -> Done>(rt: HostRuntime, job: F) -> Done
+    requires { F.IsAlwaysCallable job }
+{
+    let mut buffer = io::buffer();
+    let name = crate::host::arg(rt, 3, &mut buffer);
+    let mut bytes = io::large_buffer();
+    let bytes = crate::files::load(rt, name, &mut bytes)?;
+    job(Source { name, bytes })
 }
 
-fn named(rt: HostRuntime, word: &[u8], count: usize) -> u8 {
-    if crate::arguments::same(word, b"new") {
-        return new(rt);
-    }
-    if crate::arguments::same(word, b"list") {
-        return with(rt, Job::List);
-    }
-    match crate::arguments::number(rt, 4) {
-        Asked::Nothing => crate::tell::FAILED,
-        Asked::Whole(room) => with_room(rt, word, room, count),
+fn with_room(rt: HostRuntime, word: &[u8], room: u16, count: usize) -> Done {
+    match word {
+        b"find" => with(rt, |book| find(rt, book, room, count)),
+        b"put" => crate::cards::put(rt, room),
+        b"remove" => remove(rt, room),
+        _ => Err(Undone::Failed),
     }
 }
 
 // By argument 2. What is not a number is told before a file is read.
-pub(crate) fn run(rt: HostRuntime, count: usize) -> u8 {
-    let mut word = io::buffer();
-    let n = crate::host::arg(rt, 2, &mut word);
-    named(rt, &word[..n], count)
+pub(crate) fn run(rt: HostRuntime, count: usize) -> Done {
+    let mut buffer = io::buffer();
+    match crate::host::arg(rt, 2, &mut buffer) {
+        b"new" => new(rt),
+        b"list" => with(rt, |book| list(rt, book)),
+        word => with_room(rt, word, crate::arguments::number(rt, 4)?, count),
+    }
 }

@@ -3,11 +3,13 @@
 ghost use Rattle.std.specs.Prelude.{◌≡◌, ◌≤◌, length};
 ghost use Rattle.std.specs.Io.{ReadsAtMost};
 
+use crate::tell::{Done, Undone};
 use std::fs::File;
 use std::io::{Error, ErrorKind, Read, Write};
 
-// Reads until the buffer is full, the input ends or a read fails.
-fn load_from<R: Read>(from: &mut R, bytes: &mut [u8]) -> std::io::Result<usize>
+// Reads until the buffer is full, the input ends or a read fails. Each read says how far the next one goes on: a
+// for would be no plainer.
+fn fill<R: Read>(from: &mut R, bytes: &mut [u8]) -> std::io::Result<usize>
     ensures { ReadsAtMost result bytes.new }
 {
     let mut done: usize = 0;
@@ -22,7 +24,7 @@ fn load_from<R: Read>(from: &mut R, bytes: &mut [u8]) -> std::io::Result<usize>
 }
 
 pub(crate) fn is_dash(path: &[u8]) -> bool {
-    path.len() == 1 && path[0] == b'-'
+    matches!(path, b"-")
 }
 
 // A file by its name, whatever that is; nothing is told.
@@ -30,7 +32,7 @@ pub(crate) fn load_named(rt: HostRuntime, path: &[u8], bytes: &mut [u8]) -> std:
     ensures { ReadsAtMost result bytes.new }
 {
     let mut from = crate::host::open_read(rt, path)?;
-    load_from(&mut from, bytes)
+    fill(&mut from, bytes)
 }
 
 // As `load`, with nothing told.
@@ -38,29 +40,34 @@ pub(crate) fn load_file(rt: HostRuntime, path: &[u8], bytes: &mut [u8]) -> std::
     ensures { ReadsAtMost result bytes.new }
 {
     if is_dash(path) {
-        return load_from(&mut rt.stdin(), bytes);
+        return fill(&mut rt.stdin(), bytes);
     }
     load_named(rt, path, bytes)
 }
 
-// A name that does not fit into its buffer comes here as an empty one.
-pub(crate) fn fail_to_load(path: &[u8], error: Error) {
-    if path.len() == 0 {
-        crate::host::fail(b"a name that is empty or longer than 4096 bytes", error);
-        return;
-    }
-    crate::host::fail(path, error);
+fn failed(rt: HostRuntime, path: &[u8], error: Error) -> Undone {
+    crate::host::complain(rt, path, error);
+    Undone::Failed
 }
 
-// How many bytes were read; an error is told.
-pub(crate) fn load(rt: HostRuntime, path: &[u8], bytes: &mut [u8]) -> std::io::Result<usize>
-    ensures { ReadsAtMost result bytes.new }
-{
-    let got = load_file(rt, path, bytes);
-    if let Err(error) = got {
-        fail_to_load(path, error);
+// A name that does not fit into its buffer comes here as an empty one.
+pub(crate) fn unloaded(rt: HostRuntime, path: &[u8], error: Error) -> Undone {
+    if path.is_empty() {
+        return failed(rt, b"a name that is empty or longer than 4096 bytes", error);
     }
-    got
+    failed(rt, path, error)
+}
+
+// What was read, in the buffer; an error is told.
+pub(crate) fn load<'a>(
+    rt: HostRuntime,
+    path: &[u8],
+    buffer: &'a mut [u8],
+) -> Result<&'a [u8], Undone> {
+    match load_file(rt, path, buffer) {
+        Ok(n) => Ok(&buffer[..n]),
+        Err(error) => Err(unloaded(rt, path, error)),
+    }
 }
 
 const LONGEST: usize = 4000;
@@ -74,117 +81,97 @@ fn beside(rt: HostRuntime, path: &[u8], name: &mut [u8]) -> usize
     decimal::put_worded(name, n, b".new", process as u64)
 }
 
-// What went wrong is told, and the new file goes.
-fn give_up(rt: HostRuntime, path: &[u8], beside: &[u8], error: Error) -> u8 {
-    crate::host::fail(path, error);
-    let _ = crate::host::unlink(rt, beside);
-    crate::tell::FAILED
-}
-
-// Synced, and closed.
-fn sync(to: File) -> std::io::Result<()> {
+// Filled, synced and closed.
+fn write<F: FnOnce(&mut File) -> std::io::Result<()>>(mut to: File, fill: F) -> std::io::Result<()>
+    requires { F.IsAlwaysCallable fill }
+{
+    fill(&mut to)?;
     to.sync_all()
 }
 
-// Synced, closed and renamed: the old file or the new one is there, and never a part.
-fn settle(rt: HostRuntime, path: &[u8], beside: &[u8], to: File) -> u8 {
-    if let Err(error) = sync(to) {
-        return give_up(rt, path, beside, error);
+// A new file beside the one that is asked for, filled, synced, closed and renamed: the old file or the new one
+// is there, and never a part. What goes wrong is told, and the new file goes.
+fn settle<F: FnOnce(&mut File) -> std::io::Result<()>>(
+    rt: HostRuntime,
+    path: &[u8],
+    beside: &[u8],
+    fill: F,
+) -> Done
+    requires { F.IsAlwaysCallable fill }
+{
+    let to = match crate::host::create(rt, beside) {
+        Ok(file) => file,
+        Err(error) => return Err(failed(rt, path, error)),
+    };
+    let settled = match write(to, fill) {
+        Ok(()) => crate::host::rename(rt, beside, path),
+        Err(error) => Err(error),
+    };
+    if let Err(error) = settled {
+        let undone = failed(rt, path, error);
+        let _ = crate::host::unlink(rt, beside);
+        return Err(undone);
     }
-    if let Err(error) = crate::host::rename(rt, beside, path) {
-        return give_up(rt, path, beside, error);
-    }
-    crate::tell::DONE
+    Ok(())
 }
 
-fn failed(path: &[u8], error: Error) -> u8 {
-    crate::host::fail(path, error);
-    crate::tell::FAILED
-}
-
-fn save_by(rt: HostRuntime, path: &[u8], beside: &[u8], bytes: &[u8]) -> u8 {
-    match crate::host::create(rt, beside) {
-        Err(error) => failed(path, error),
-        Ok(file) => {
-            let mut to = file;
-            if let Err(error) = to.write_all(bytes) {
-                return give_up(rt, path, beside, error);
-            }
-            settle(rt, path, beside, to)
-        }
-    }
-}
-
-fn too_long() -> u8 {
-    io::write_all(
-        2,
+fn too_long(rt: HostRuntime) -> Undone {
+    crate::tell::complain(
+        rt,
         b"kaihveto: the name of the new file is empty or too long\n",
     );
-    crate::tell::FAILED
+    Undone::Failed
 }
 
-// Bytes as a file, or to standard output. No file has an empty name: one that does not fit into its buffer
+// In the place of a file, what fills it. No file has an empty name: one that does not fit into its buffer
 // comes here as such.
-pub(crate) fn save(rt: HostRuntime, path: &[u8], bytes: &[u8]) -> u8 {
-    if is_dash(path) {
-        return crate::tell::print(rt, bytes);
-    }
-    if path.len() == 0 || LONGEST < path.len() {
-        return too_long();
+fn replace<F: FnOnce(&mut File) -> std::io::Result<()>>(
+    rt: HostRuntime,
+    path: &[u8],
+    fill: F,
+) -> Done
+    requires { F.IsAlwaysCallable fill }
+{
+    if path.is_empty() || LONGEST < path.len() {
+        return Err(too_long(rt));
     }
     let mut name = io::buffer();
     let n = beside(rt, path, &mut name);
-    save_by(rt, path, crate::tell::front(&name, n), bytes)
+    settle(rt, path, crate::places::front(&name, n), fill)
+}
+
+// Bytes as a file, or to standard output.
+pub(crate) fn save(rt: HostRuntime, path: &[u8], bytes: &[u8]) -> Done {
+    if is_dash(path) {
+        return crate::tell::print(rt, bytes);
+    }
+    replace(rt, path, |to| to.write_all(bytes))
 }
 
 // Bytes as a file where there is none: the name itself is made, which fails where it is taken, and renaming
 // it to itself changes nothing.
-pub(crate) fn make(rt: HostRuntime, path: &[u8], bytes: &[u8]) -> u8 {
-    if path.len() == 0 {
-        return too_long();
+pub(crate) fn make(rt: HostRuntime, path: &[u8], bytes: &[u8]) -> Done {
+    if path.is_empty() {
+        return Err(too_long(rt));
     }
-    save_by(rt, path, path, bytes)
+    settle(rt, path, path, |to| to.write_all(bytes))
 }
 
+// Standard input, as far as it can be read.
 fn copy(to: &mut File) -> std::io::Result<()> {
     let mut bytes = io::large_buffer();
-    let mut left: usize = 1_000_000;
-    while 0 < left {
+    for _ in 0..1_000_000 {
         let n = io::read_full(0, &mut bytes);
         if n == 0 {
             return Ok(());
         }
         to.write_all(&bytes[..n])?;
-        left -= 1;
     }
     Err(Error::from(ErrorKind::FileTooLarge))
 }
 
-fn copy_by(rt: HostRuntime, path: &[u8], beside: &[u8]) -> u8 {
-    match crate::host::create(rt, beside) {
-        Err(error) => failed(path, error),
-        Ok(file) => {
-            let mut to = file;
-            if let Err(error) = copy(&mut to) {
-                return give_up(rt, path, beside, error);
-            }
-            settle(rt, path, beside, to)
-        }
-    }
-}
-
-fn copy_input(rt: HostRuntime, path: &[u8]) -> u8 {
-    if path.len() == 0 || LONGEST < path.len() {
-        return too_long();
-    }
-    let mut name = io::buffer();
-    let n = beside(rt, path, &mut name);
-    copy_by(rt, path, crate::tell::front(&name, n))
-}
-
 // Standard input as a file of argument 2's name.
-pub(crate) fn save_input(rt: HostRuntime) -> u8 {
-    let mut path = io::buffer();
-    let n = crate::host::arg(rt, 2, &mut path);
-    copy_input(rt, &path[..n])
+pub(crate) fn save_input(rt: HostRuntime) -> Done {
+    let mut buffer = io::buffer();
+    replace(rt, crate::host::arg(rt, 2, &mut buffer), |to| copy(to))
 }

@@ -1,40 +1,28 @@
 // What the program asks of the system, over `std`: its arguments, files by their names, its process's number,
 // and what an error says. A name is bytes, and `std` takes text: a name that is no text is told as the system
 // tells it.
-ghost use Rattle.std.specs.Prelude.{◌≤◌, length};
-
-use crate::line::Line;
+use crate::tell::Text;
 use std::env::{Env, FillError};
 use std::fmt::Write;
 use std::fs::{File, OpenOptions};
 use std::io::{Error, ErrorKind};
 
-// Argument i at the start of the buffer, and its length; 0 where there is none or it does not fit.
-pub(crate) fn arg(rt: HostRuntime, i: usize, word: &mut [u8]) -> usize
-    ensures { result ≤ length word.new }
-{
-    match rt.arg(i, word) {
-        Ok(n) => n,
-        Err(_) => 0,
-    }
+// Argument i, in the buffer; nothing where there is none or it does not fit.
+pub(crate) fn arg(rt: HostRuntime, i: usize, word: &mut [u8]) -> &[u8] {
+    let n = rt.arg(i, word).unwrap_or(0);
+    &word[..n]
 }
 
 fn has_arg(rt: HostRuntime, i: usize) -> bool {
     let mut first = [0u8; 1];
-    match rt.arg(i, &mut first) {
-        Err(FillError::NotPresent) => false,
-        _ => true,
-    }
+    !matches!(rt.arg(i, &mut first), Err(FillError::NotPresent))
 }
 
 // How many arguments there are, the program's own name among them.
 pub(crate) fn arg_count(rt: HostRuntime) -> usize {
-    for i in 0..usize::MAX {
-        if !has_arg(rt, i) {
-            return i;
-        }
-    }
-    usize::MAX
+    (0..usize::MAX)
+        .find(|i| !has_arg(rt, *i))
+        .unwrap_or(usize::MAX)
 }
 
 pub(crate) fn process(rt: HostRuntime) -> u32 {
@@ -48,18 +36,11 @@ const INVALID: i32 = 22;
 
 const NO_TEXT: i32 = 84;
 
-fn has_zero(name: &[u8]) -> bool {
-    crate::rooms::last(name, 0) < name.len()
-}
-
 fn text(name: &[u8]) -> std::io::Result<&str> {
-    if has_zero(name) {
+    if name.iter().any(|byte| *byte == 0) {
         return Err(Error::from_raw_os_error(INVALID));
     }
-    match std::str::from_utf8(name) {
-        Ok(text) => Ok(text),
-        Err(_) => Err(Error::from_raw_os_error(NO_TEXT)),
-    }
+    std::str::from_utf8(name).map_err(|_| Error::from_raw_os_error(NO_TEXT))
 }
 
 pub(crate) fn open_read(rt: HostRuntime, path: &[u8]) -> std::io::Result<File> {
@@ -90,21 +71,22 @@ pub(crate) fn is_missing(error: Error) -> bool {
     error.kind() == ErrorKind::NotFound || error.kind() == ErrorKind::InvalidFilename
 }
 
-// The system's text of an error, without its number in brackets, which `std` adds.
-fn words_of(error: Error) -> Line {
-    let mut line = Line::new();
-    let _ = write!(line, "{error}");
-    if error.raw_os_error().is_none() {
-        return line;
-    }
-    line.before_bracket()
+// What stands before the last bracket that opens, without the blank between.
+fn before_bracket(text: &str) -> &str {
+    let bracket = text.as_bytes().iter().rposition(|byte| *byte == b'(');
+    let end = bracket.and_then(|at| at.checked_sub(1));
+    end.and_then(|end| text.get(..end)).unwrap_or(text)
 }
 
-// A line to standard error: what failed, as the caller names it, a colon and the error's text.
-pub(crate) fn fail(what: &[u8], error: Error) {
-    Line::new()
-        .words(b": ")
-        .line(words_of(error))
-        .words(b"\n")
-        .tell(what);
+// A line to standard error: what failed, as the caller names it, a colon and the system's text of the error,
+// without its number in brackets, which `std` adds.
+pub(crate) fn complain(rt: HostRuntime, what: &[u8], error: Error) {
+    let mut text = Text::new();
+    let _ = write!(text, "{error}");
+    let said = if error.raw_os_error().is_none() {
+        text.as_str()
+    } else {
+        before_bracket(text.as_str())
+    };
+    crate::tell::complain_line(rt, what, format_args!(": {said}"));
 }

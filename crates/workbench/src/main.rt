@@ -4,8 +4,8 @@
 // book new BOOK, book list BOOK, book find BOOK ROOM [CARD], book put BOOK ROOM CARD CARE, book remove BOOK
 // ROOM, save FILE. CARE is two words: the hundredths beyond its knots beyond which a curve is warned of, and
 // `strict` where such a curve is refused. A CARD that is read may be BOOK:ROOM. Results go to standard
-// output, complaints to standard error, and one byte to descriptor 3, since a program of Rattle has no exit
-// status (`tell`). What is proved of the lines is said in the crates that are called; here every function is
+// output, complaints to standard error, and one byte to descriptor 3: where none comes, the program was ended
+// before its time. What is proved of the lines is said in the crates that are called; here every function is
 // proved safe and ending.
 #![tactic(auto)]
 
@@ -17,11 +17,12 @@ mod explained;
 mod files;
 mod heats;
 mod host;
-mod line;
 mod logs;
+mod places;
 mod rooms;
 mod sheets;
 mod slots;
+mod source;
 mod swings;
 mod tables;
 mod tell;
@@ -29,48 +30,41 @@ mod weight_lines;
 mod whys;
 
 use std::process::ExitCode;
+use tell::{Done, Undone};
 
-fn run(rt: HostRuntime, command: &[u8], count: usize) -> u8 {
-    if arguments::same(command, b"fit") {
-        return sheets::fit(rt, count);
+fn run(rt: HostRuntime, command: &[u8], count: usize) -> Done {
+    match command {
+        b"fit" => sheets::fit(rt, count),
+        b"free" => sheets::fit_free(rt, count),
+        b"mend" => sheets::mend(rt, count),
+        b"list" => cards::list_argument(rt),
+        b"check" => cards::check(rt, count),
+        b"at" => cards::minutes(rt, count),
+        b"explain" => cards::explain(rt),
+        b"table" => cards::table(rt, count),
+        b"points" => cards::points(rt),
+        b"mean" => logs::mean(rt),
+        b"preheat" => heats::print(rt),
+        b"why" => whys::why(rt),
+        b"weights" => weight_lines::print(rt),
+        b"book" => books::run(rt, count),
+        b"save" => files::save_input(rt),
+        _ => Err(Undone::Failed),
     }
-    if arguments::same(command, b"free") {
-        return sheets::fit_free(rt, count);
-    }
-    if arguments::same(command, b"mend") {
-        return sheets::mend(rt, count);
-    }
-    if arguments::same(command, b"mean") {
-        return logs::mean(rt);
-    }
-    if arguments::same(command, b"preheat") {
-        return heats::print(rt);
-    }
-    if arguments::same(command, b"why") {
-        return whys::why(rt);
-    }
-    if arguments::same(command, b"weights") {
-        return weight_lines::print(rt);
-    }
-    if arguments::same(command, b"book") {
-        return books::run(rt, count);
-    }
-    if arguments::same(command, b"save") {
-        return files::save_input(rt);
-    }
-    cards::run(rt, command, count)
 }
 
 // The status with which a shell sees a program that wrote to a pipe that nobody reads.
 const PIPE: u8 = 141;
 
 fn main(rt: HostRuntime) -> ExitCode {
-    let mut command = io::buffer();
-    let n = host::arg(rt, 1, &mut command);
-    let status = run(rt, &command[..n], host::arg_count(rt));
-    if status == tell::GONE {
-        return ExitCode::from(PIPE);
-    }
+    let mut buffer = io::buffer();
+    let command = host::arg(rt, 1, &mut buffer);
+    let status = match run(rt, command, host::arg_count(rt)) {
+        Ok(()) => b'0',
+        Err(Undone::Refused) => b'1',
+        Err(Undone::Failed) => b'2',
+        Err(Undone::Gone) => return ExitCode::from(PIPE),
+    };
     io::write_all(3, &[status]);
     ExitCode::SUCCESS
 }

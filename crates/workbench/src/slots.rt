@@ -1,19 +1,17 @@
 // The logs that a sheet names, read from their files into the slots in which `reply` looks for them. A name
 // is taken from the sheet's own folder, so that a folder with a sheet and its logs can be carried about.
-ghost use Rattle.std.specs.Prelude.{◌≡◌, ◌+◌, ◌≤◌, ◌<◌, length};
-ghost use Rattle.reply.specs.Knots.{slot};
+ghost use Rattle.std.specs.Prelude.{◌≡◌, length};
 
+use crate::tell::{Done, Undone};
 use reply::SLOT;
-use std::io::Error;
-use text::Sheet;
+use text::{Blame, Sheet};
 
 // The folder of a file, with the slash; nothing where its name has none.
 fn folder(file: &[u8]) -> &[u8] {
-    let slash = crate::rooms::last(file, b'/');
-    if slash < file.len() {
-        return crate::tell::front(file, slash + 1);
+    match file.iter().rposition(|byte| *byte == b'/') {
+        Some(slash) => &file[..slash + 1],
+        None => &file[..0],
     }
-    crate::tell::front(file, 0)
 }
 
 // Nothing where they are too long.
@@ -29,84 +27,54 @@ fn join(path: &mut [u8], folder: &[u8], name: &[u8]) -> usize {
 }
 
 fn put_path(path: &mut [u8], file: &[u8], name: &[u8]) -> usize {
-    if numeral::starts(name, b'/') {
-        return join(path, b"", name);
+    match name {
+        [b'/', ..] => join(path, b"", name),
+        _ => join(path, folder(file), name),
     }
-    join(path, folder(file), name)
 }
 
+// The log in its slot, behind its length; `-` is a name like any other. Of a log that is too long one byte too
+// many is read, and no further one. What cannot be read is told:
 // `night.sheet:4: hour.log: No such file or directory`.
-fn fail_to_load(file: &[u8], line: u32, path: &[u8], error: Error) {
-    io::write_all(2, file);
-    io::write_all(2, b":");
-    io::print_decimal(2, line as u64);
-    io::write_all(2, b": ");
-    crate::files::fail_to_load(path, error);
-}
-
-fn put_log(logs: &mut [u8], at: usize, log: &[u8])
-    requires { (at + slot ≤ length logs.old) × (length log.now < slot) }
+fn load_log(rt: HostRuntime, file: &[u8], line: u32, name: &[u8], slot: &mut [u8]) -> Done
+    requires { length slot.old ≡ 62 }
 {
-    let next = decimal::put_byte(logs, at, log.len() as u8);
-    decimal::put_words(logs, next, log);
-}
-
-// `-` is a name like any other. Of a log that is too long one byte too many is read, and no further one.
-fn load_log(
-    rt: HostRuntime,
-    file: &[u8],
-    line: u32,
-    name: &[u8],
-    logs: &mut [u8],
-    at: usize,
-) -> bool
-    requires { at + slot ≤ length logs.old }
-{
-    let mut path = io::buffer();
-    let n = put_path(&mut path, file, name);
-    let mut log = [0u8; SLOT - 1];
-    match crate::files::load_named(rt, crate::tell::front(&path, n), &mut log) {
-        Err(error) => {
-            fail_to_load(file, line, crate::tell::front(&path, n), error);
-            false
+    let mut buffer = io::buffer();
+    let n = put_path(&mut buffer, file, name);
+    let path = crate::places::front(&buffer, n);
+    match crate::files::load_named(rt, path, &mut slot[1..]) {
+        Ok(length) => {
+            slot[0] = length as u8;
+            Ok(())
         }
-        Ok(k) => {
-            put_log(logs, at, &log[..k]);
-            true
+        Err(error) => {
+            crate::tell::complain(rt, file);
+            let _ = eprint!(rt; ":{line}: ");
+            Err(crate::files::unloaded(rt, path, error))
         }
     }
 }
 
-fn load_knot(
+// All of them, in the order of the lines; the first that cannot be read is told. A sheet with anything wrong
+// has no log.
+pub(crate) fn load(
     rt: HostRuntime,
-    is_log: bool,
     file: &[u8],
     text: &[u8],
-    line: u32,
+    sheet: Result<Sheet, Blame>,
     logs: &mut [u8],
-    at: usize,
-) -> bool
-    requires { at + slot ≤ length logs.old }
-{
-    if !is_log {
-        return true;
-    }
-    load_log(rt, file, line, text::log_name(text, line), logs, at)
-}
-
-// Whether all could be read, in the order of the lines; the first that could not is told. A sheet with
-// anything wrong has no log.
-pub(crate) fn load(rt: HostRuntime, file: &[u8], text: &[u8], sheet: Sheet, logs: &mut [u8]) -> bool
+) -> Done
     requires { length logs.old ≡ 4096 }
 {
-    let are_logs = sheet.logs;
-    let lines = sheet.lines;
-    let mut i: usize = 0;
-    while i < Sheet::MOST {
-        if !load_knot(rt, are_logs[i], file, text, lines[i], logs, SLOT * i) {
-            return false;
+    let Ok(sheet) = sheet else {
+        return Ok(());
+    };
+    for i in 0..Sheet::MOST {
+        if sheet.logs[i] {
+            let line = sheet.lines[i];
+            let name = text::log_name(text, line);
+            load_log(rt, file, line, name, &mut logs[SLOT * i..SLOT * i + SLOT])?;
         }
-        i += 1;
     }
-    true
+    Ok(())
 }

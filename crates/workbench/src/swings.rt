@@ -4,14 +4,14 @@
 ghost use Rattle.std.specs.Prelude.{◌+◌, ◌<◌};
 ghost use Rattle.opened.specs.Readable.{Readable};
 
-use crate::arguments::Asked;
-use crate::line::Line;
-use answer::Judged;
+use crate::places::at;
+use crate::source::Source;
+use crate::tell::{Done, Stream, Undone};
 use decode::Card;
-use knots::Kind;
 use opened::Opened;
+use std::fmt;
+use std::fmt::{Display, Formatter, Write};
 use swing::Swung;
-use text::Sheet;
 
 // ---- what is cared for
 
@@ -23,16 +23,24 @@ pub(crate) struct Care {
     strict: bool,
 }
 
-// What two arguments say of it.
-#[derive(Drop)]
-pub(crate) enum Cared {
-    For(Care),
-    Nothing,
-}
-
 impl Care {
     // No ordinate is further from 0.
     const MOST: u16 = 20_000;
+
+    // By the arguments of these numbers: the bound, and `strict` or another word. A bound that is none is told.
+    pub(crate) fn asked_for(rt: HostRuntime, bound: usize, manner: usize) -> Result<Care, Undone> {
+        let mut buffer = io::buffer();
+        let word = crate::host::arg(rt, bound, &mut buffer);
+        let asked = crate::arguments::whole(word).filter(|asked| *asked <= Care::MOST);
+        let Some(bound) = asked else {
+            complain(rt, word);
+            return Err(Undone::Failed);
+        };
+        Ok(Care {
+            bound: bound as u32,
+            strict: is_strict(rt, manner),
+        })
+    }
 
     // The gap that goes furthest decides.
     fn warns(self, furthest: Swung) -> bool {
@@ -40,262 +48,189 @@ impl Care {
     }
 
     // How an answer ends that is warned of, or is not.
-    pub(crate) fn status(self, warned: bool) -> u8 {
+    pub(crate) fn judge(self, warned: bool) -> Done {
         if warned && self.strict {
-            return crate::tell::REFUSED;
+            return Err(Undone::Refused);
         }
-        crate::tell::DONE
+        Ok(())
     }
 }
 
-fn told(word: &[u8]) -> Cared {
-    io::write_all(
-        2,
+fn complain(rt: HostRuntime, word: &[u8]) {
+    crate::tell::complain(
+        rt,
         b"kaihveto: --swing asks for hundredths, a whole number from 0 to 20000: '",
     );
-    io::write_all(2, word);
-    io::write_all(2, b"' is none\n");
-    Cared::Nothing
+    crate::tell::complain_line(rt, word, "' is none");
 }
 
 fn is_strict(rt: HostRuntime, i: usize) -> bool {
-    let mut word = io::buffer();
-    let n = crate::host::arg(rt, i, &mut word);
-    crate::arguments::same(&word[..n], b"strict")
-}
-
-fn by_words(word: &[u8], strict: bool) -> Cared {
-    match crate::arguments::whole(word) {
-        Asked::Nothing => told(word),
-        Asked::Whole(bound) => {
-            if Care::MOST < bound {
-                return told(word);
-            }
-            Cared::For(Care {
-                bound: bound as u32,
-                strict,
-            })
-        }
-    }
-}
-
-// By the arguments of these numbers: the bound, and `strict` or another word. A bound that is none is told.
-pub(crate) fn asked_for(rt: HostRuntime, bound: usize, manner: usize) -> Cared {
-    let mut word = io::buffer();
-    let n = crate::host::arg(rt, bound, &mut word);
-    by_words(&word[..n], is_strict(rt, manner))
+    let mut buffer = io::buffer();
+    matches!(crate::host::arg(rt, i, &mut buffer), b"strict")
 }
 
 // ---- a line for each gap
 
-// The gap, and of a sheet the line of its left knot; whether the curve's first end is free.
+// `:3` of a sheet's line, and nothing of a card.
 #[derive(Clone, Copy)]
-struct Place {
-    line: u32,
+struct AtLine(Option<u32>);
+
+impl Display for AtLine {
+    fn fmt<W: Write>(&self, f: &mut Formatter<W>) -> fmt::Result {
+        match self.0 {
+            None => Ok(()),
+            Some(line) => write!(f, ":{line}"),
+        }
+    }
+}
+
+// A gap by its two minutes, and of a sheet the line of its left knot; what else can be done about its swing.
+#[derive(Clone, Copy)]
+struct Gap {
+    line: AtLine,
     from: u16,
     to: u16,
-    free: bool,
+    advice: &'static str,
 }
 
-impl Place {
-    fn begun(self) -> Line {
-        let named = if self.line == 0 {
-            Line::new()
-        } else {
-            Line::new().words(b":").count(self.line as u64)
-        };
-        named
-            .words(b": warning: between minute ")
-            .count(self.from as u64)
-            .words(b" and ")
-            .count(self.to as u64)
-    }
+// How warnings are given: where to, behind which name, of a sheet with the lines of its knots, and beyond
+// which bound.
+#[derive(Clone, Copy)]
+struct Warner<'a> {
+    stream: Stream,
+    name: &'a [u8],
+    lines: &'a [u32],
+    bound: u32,
+}
 
+impl Warner<'_> {
     // `a.sheet:3: warning: between minute 65 and 125 the curve goes 886 below both knots, lowest at 88: ..`
-    fn warn(
-        self,
-        rt: HostRuntime,
-        name: &[u8],
-        aloud: bool,
-        by: u32,
-        side: &[u8],
-        minute: u16,
-    ) -> u8 {
-        let said = self
-            .begun()
-            .words(b" the curve goes ")
-            .count(by as u64)
-            .words(side)
-            .count(minute as u64)
-            .words(b": look at the knots beside it");
-        let advised = if self.free {
-            said
-        } else {
-            said.words(b", or fit with --free")
+    fn warn(self, rt: HostRuntime, gap: Gap, by: u32, side: &str, minute: u16) -> Done {
+        if by <= self.bound {
+            return Ok(());
+        }
+        let Gap {
+            line,
+            from,
+            to,
+            advice,
+        } = gap;
+        let place = format_args!("{line}: warning: between minute {from} and {to}");
+        let swing = format_args!("the curve goes {by} {side} at {minute}");
+        self.stream.line(
+            rt,
+            self.name,
+            format_args!("{place} {swing}: look at the knots beside it{advice}"),
+        )
+    }
+
+    // Of the gap before knot i.
+    fn gap(self, rt: HostRuntime, card: Card, i: usize) -> Done
+        requires readable { Readable card }
+        requires i_nonzero { (0 < i) × (i < card.knots) }
+    {
+        let swing = swing::gap(card, i - 1);
+        let gap = Gap {
+            line: AtLine(self.lines.get(i - 1).copied()),
+            from: at(&card.minutes, i - 1),
+            to: at(&card.minutes, i),
+            advice: if card.left == 0 {
+                ""
+            } else {
+                ", or fit with --free"
+            },
         };
-        advised.words(b"\n").say(rt, name, aloud)
+        let below = self.warn(
+            rt,
+            gap,
+            swing.below,
+            "below both knots, lowest",
+            swing.lowest,
+        );
+        let above = self.warn(
+            rt,
+            gap,
+            swing.above,
+            "above both knots, highest",
+            swing.highest,
+        );
+        below.max(above)
     }
-}
 
-// Of a knot; 0 where there is none.
-pub(crate) fn minute_at(minutes: &[u16; Kind::MOST], knot: usize) -> u16 {
-    if knot < Kind::MOST {
-        return minutes[knot];
+    fn gaps(self, rt: HostRuntime, card: Card) -> Done
+        requires { Readable card }
+    {
+        let mut done = Ok(());
+        for i in 1..card.knots {
+            done = done.max(self.gap(rt, card, i));
+        }
+        done
     }
-    0
-}
 
-fn warn_side(
-    rt: HostRuntime,
-    name: &[u8],
-    aloud: bool,
-    place: Place,
-    bound: u32,
-    by: u32,
-    side: &[u8],
-    minute: u16,
-) -> u8 {
-    if bound < by {
-        return place.warn(rt, name, aloud, by, side, minute);
-    }
-    crate::tell::DONE
-}
-
-// Of the gap before knot i.
-fn warn_gap(
-    rt: HostRuntime,
-    name: &[u8],
-    aloud: bool,
-    lines: [u32; Sheet::MOST],
-    bound: u32,
-    card: Card,
-    i: usize,
-) -> u8
-    requires readable { Readable card }
-    requires i_nonzero { (0 < i) × (i < card.knots) }
-{
-    let swing = swing::gap(card, i - 1);
-    let minutes = card.minutes;
-    let place = Place {
-        line: reply::line_of(lines, (i - 1) as u32),
-        from: minute_at(&minutes, i - 1),
-        to: minute_at(&minutes, i),
-        free: card.left == 0,
-    };
-    let below = warn_side(
-        rt,
-        name,
-        aloud,
-        place,
-        bound,
-        swing.below,
-        b" below both knots, lowest at ",
-        swing.lowest,
-    );
-    let above = warn_side(
-        rt,
-        name,
-        aloud,
-        place,
-        bound,
-        swing.above,
-        b" above both knots, highest at ",
-        swing.highest,
-    );
-    crate::tell::graver(below, above)
-}
-
-fn warn_gaps(
-    rt: HostRuntime,
-    name: &[u8],
-    aloud: bool,
-    lines: [u32; Sheet::MOST],
-    bound: u32,
-    card: Card,
-) -> u8
-    requires { Readable card }
-{
-    let knots = card.knots;
-    let mut status = crate::tell::DONE;
-    let mut i: usize = 1;
-    while i < knots {
-        status = crate::tell::graver(status, warn_gap(rt, name, aloud, lines, bound, card, i));
-        i += 1;
-    }
-    status
-}
-
-// Of a card by its bytes. A card that is refused is not warned of.
-fn warn(
-    rt: HostRuntime,
-    name: &[u8],
-    aloud: bool,
-    lines: [u32; Sheet::MOST],
-    bound: u32,
-    bytes: &[u8],
-) -> u8 {
-    let opened = Opened::by_head(bytes);
-    let verdict = opened.verdict;
-    let card = opened.card;
-    match verdict {
-        Judged::Refused(_, _) => crate::tell::DONE,
-        Judged::Accepted => warn_gaps(rt, name, aloud, lines, bound, card),
+    // Of a card by its bytes. A card that is refused is not warned of.
+    #[tactic(auto, using(opened::proofs::Opening::accepted_readable))]
+    fn card(self, rt: HostRuntime, bytes: &[u8]) -> Done {
+        let opened = Opened::by_head(bytes);
+        match opened.verdict {
+            Err(_) => Ok(()),
+            Ok(()) => self.gaps(rt, opened.card),
+        }
     }
 }
 
 // ---- what is done with them
 
-// In a report: how far the curve goes beyond its knots, behind what stands in the line.
-pub(crate) fn furthest(line: Line, swing: Swung) -> Line {
-    let by = if swing.below < swing.above {
-        swing.above
-    } else {
-        swing.below
-    };
-    if by == 0 {
-        return line.words(b", nowhere beyond its knots");
+// In a report: how far the curve goes beyond its knots.
+#[derive(Clone, Copy)]
+pub(crate) struct Beyond(pub(crate) Swung);
+
+impl Display for Beyond {
+    fn fmt<W: Write>(&self, f: &mut Formatter<W>) -> fmt::Result {
+        let Beyond(swing) = self;
+        let by = swing.below.max(swing.above);
+        if by == 0 {
+            return f.write_str("nowhere beyond its knots");
+        }
+        let minute = swing.minute;
+        write!(f, "beyond its knots by {by} at {minute}")
     }
-    line.words(b", beyond its knots by ")
-        .count(by as u64)
-        .words(b" at ")
-        .count(swing.minute as u64)
 }
 
 // In a report, behind it: a line for each, and how that ends.
-pub(crate) fn report(
-    rt: HostRuntime,
-    name: &[u8],
-    bytes: &[u8],
-    furthest: Swung,
-    care: Care,
-) -> u8 {
+pub(crate) fn report(rt: HostRuntime, source: Source, furthest: Swung, care: Care) -> Done {
     if !care.warns(furthest) {
-        return crate::tell::DONE;
+        return Ok(());
     }
-    let said = warn(rt, name, true, [0; Sheet::MOST], care.bound, bytes);
-    crate::tell::graver(said, care.status(true))
+    let warner = Warner {
+        stream: Stream::Output,
+        name: source.name,
+        lines: &[],
+        bound: care.bound,
+    };
+    let said = warner.card(rt, source.bytes);
+    said.max(care.judge(true))
 }
 
 // Where a card is made or put in: beside it, before anything is written; what is told of a curve that is
-// refused for it stands behind.
-pub(crate) fn allow(
-    rt: HostRuntime,
-    name: &[u8],
-    lines: [u32; Sheet::MOST],
-    bytes: &[u8],
-    care: Care,
-) -> u8 {
-    if !care.warns(swing::swing(bytes)) {
-        return crate::tell::DONE;
+// refused for it stands behind. Of a sheet, with the lines of its knots.
+pub(crate) fn allow(rt: HostRuntime, source: Source, lines: &[u32], care: Care) -> Done {
+    if !care.warns(swing::swing(source.bytes)) {
+        return Ok(());
     }
-    warn(rt, name, false, lines, care.bound, bytes);
-    let status = care.status(true);
-    if status != crate::tell::DONE {
-        io::write_all(2, name);
-        io::write_all(
-            2,
-            b": not taken: --strict refuses a curve that is warned of\n",
+    let warner = Warner {
+        stream: Stream::Error,
+        name: source.name,
+        lines,
+        bound: care.bound,
+    };
+    let _ = warner.card(rt, source.bytes);
+    let judged = care.judge(true);
+    if judged.is_err() {
+        crate::tell::complain_line(
+            rt,
+            source.name,
+            ": not taken: --strict refuses a curve that is warned of",
         );
     }
-    status
+    judged
 }

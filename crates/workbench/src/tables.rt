@@ -1,24 +1,26 @@
 // The readings of a card at all of its minutes, and their lines.
 ghost use Rattle.std.specs.Prelude.{◌<◌, ◌≤◌};
 
+use crate::places::{at, front};
+use crate::tell::{Done, Undone};
 use knots::Kind;
 
 // No line is longer.
 const LINE: usize = 48;
 
-// At the front of three arrays, from a first minute on.
-#[derive(Clone, Copy)]
+// At the front of three arrays, from a first minute on. No card goes beyond minute 65,535.
+#[derive(Drop)]
 pub(crate) struct Readings {
     pub(crate) first: u16,
-    pub(crate) count: usize,
-    pub(crate) values: [i32; Readings::MOST],
-    pub(crate) slopes: [i32; Readings::MOST],
-    pub(crate) curvatures: [i32; Readings::MOST],
+    count: usize,
+    values: [i32; Readings::MOST],
+    slopes: [i32; Readings::MOST],
+    curvatures: [i32; Readings::MOST],
 }
 
 impl Readings {
     // The most and widest gaps that a card has, and the first minute.
-    pub(crate) const MOST: usize = (Kind::MOST - 1) * (Kind::GAP as usize) + 1;
+    const MOST: usize = (Kind::MOST - 1) * (Kind::GAP as usize) + 1;
 
     // What a buffer of 65,536 bytes may hold before another line goes into it.
     const NEARLY_FULL: usize = 65_488;
@@ -36,22 +38,14 @@ impl Readings {
             curvatures,
         }
     }
-}
 
-// The minute of a place. No card goes beyond minute 65,535, so nothing is cut off.
-pub(crate) fn minute_of(first: u16, i: usize) -> u16 {
-    ((first as usize + i % 65536) % 65536) as u16
-}
-
-// What stands at a place; 0 behind the last.
-pub(crate) fn at(list: &[i32; Readings::MOST], i: usize) -> i32 {
-    if i < Readings::MOST {
-        return list[i];
+    pub(crate) fn values(&self) -> &[i32] {
+        front(&self.values, self.count)
     }
-    0
 }
 
 // The line of a reading, where the buffer has room for any.
+#[tactic(auto, using(listing::proofs::Lengths::length_knot_line))]
 fn put_reading(
     text: &mut [u8],
     at: usize,
@@ -69,57 +63,35 @@ fn put_reading(
     listing::knot_line(text, at, minute, value, slope, curvature)
 }
 
-fn at_most(count: usize) -> usize
-    ensures { result ≤ 65536 }
-{
-    if count < Readings::MOST {
-        return count;
-    }
-    Readings::MOST
-}
-
 // Every so many minutes, from the first on.
-fn print_lines(rt: HostRuntime, readings: Readings, every: usize) -> u8
+fn print_lines(rt: HostRuntime, readings: &Readings, every: usize) -> Done
     requires { (0 < every) × (every < 65536) }
 {
-    let first = readings.first;
-    let count = at_most(readings.count);
-    let values = readings.values;
-    let slopes = readings.slopes;
-    let curvatures = readings.curvatures;
     let mut text = io::large_buffer();
     let mut next: usize = 0;
-    let mut status = crate::tell::DONE;
-    let mut i: usize = 0;
-    while i < count {
-        let minute = minute_of(first, i);
+    let mut done = Ok(());
+    let minutes = readings.first..=u16::MAX;
+    for (minute, i) in minutes.zip(0..readings.count).step_by(every) {
         if Readings::NEARLY_FULL < next {
-            status = crate::tell::graver(
-                status,
-                crate::tell::print(rt, crate::tell::front(&text, next)),
-            );
+            done = done.max(crate::tell::print(rt, front(&text, next)));
             next = 0;
         }
         next = put_reading(
             &mut text,
             next,
             minute,
-            at(&values, i),
-            at(&slopes, i),
-            at(&curvatures, i),
+            at(&readings.values, i),
+            at(&readings.slopes, i),
+            at(&readings.curvatures, i),
         );
-        i += every;
     }
-    crate::tell::graver(
-        status,
-        crate::tell::print(rt, crate::tell::front(&text, next)),
-    )
+    done.max(crate::tell::print(rt, front(&text, next)))
 }
 
-pub(crate) fn print(rt: HostRuntime, card: &[u8], first: u16, every: u16) -> u8 {
+pub(crate) fn print(rt: HostRuntime, card: &[u8], first: u16, every: u16) -> Done {
     if every == 0 {
-        io::write_all(2, b"kaihveto: --every asks for a number above 0\n");
-        return crate::tell::FAILED;
+        let _ = eprintln!(rt; "kaihveto: --every asks for a number above 0");
+        return Err(Undone::Failed);
     }
-    print_lines(rt, Readings::of(card, first), every as usize)
+    print_lines(rt, &Readings::of(card, first), every as usize)
 }

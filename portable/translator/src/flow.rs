@@ -42,6 +42,7 @@ pub fn ready<'a>(types: &'a Types, program: &'a Program, f: &'a Function, bindin
     let mut scope =
         Scope { types, program, locals: &f.locals, slots: f.slots.clone(), params: f.params, named: f.params + 1 + f.copies() + bindings };
     let mut code = code.clone();
+    scope.drop_empty(&mut code);
     scope.merge_parameters(&mut code);
     let mut tables = vec![];
     scope.take_lent(&mut code, first_table, &mut tables);
@@ -306,6 +307,12 @@ impl Scope<'_> {
             Stmt::Call(p, _, _) => !memory && p.base().is_none_or(|z| mentions(value, z) == 0),
             _ => false,
         }
+    }
+
+    /// What is given to a place that holds nothing is not read.
+    fn drop_empty(&self, code: &mut Vec<Stmt>) {
+        code.retain(|s| !matches!(s, Stmt::Assign(p, _) | Stmt::Repeat(p, _, _) if self.types.empty(&self.ty(p))));
+        code.iter_mut().flat_map(inner_mut).for_each(|c| self.drop_empty(c));
     }
 
     fn drop_unread(&self, code: &mut Vec<Stmt>) {

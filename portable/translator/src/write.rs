@@ -250,6 +250,8 @@ impl<'r, 'a> Writer<'r, 'a> {
                 Some(array) => format!("{}.e", atom(array.to_string())),
                 None => format!("{}->e", atom(text)),
             },
+            // nothing lies behind a reference to what is empty, and C has no such reference
+            (Ty::Ref(_, a), Ty::Ptr) if self.empty(a) => "0".into(),
             (Ty::Ref(..), Ty::Ptr) => format!("(unsigned char *){}", atom(text)),
             (Ty::Ptr | Ty::Ref(..), Ty::Ref(..)) => format!("({})(void *){}", to.c(), atom(text)),
             (Ty::Slice(true, a), Ty::Slice(false, b)) if a == b => format!("({}){{{text}.at, {text}.length}}", to.c()),

@@ -2,7 +2,6 @@
 use Prim.Native.Nat.{◌+◌}
 use mathlib.Core.List.{◌++◌}
 use lib.ListN.{length, length-append}
-use borrow.Author.Rules.{rules}
 use Rattle.little_endian.specs.Numbers.{le}
 use Rattle.little_endian.proofs.Numbers.{length_le}
 use Rattle.little_endian.proofs.Stores.{then}

@@ -4,7 +4,6 @@ use mathlib.Core.Path.{◌∙◌, ap}
 use native.Mathlib.Omega.{arith}
 use lib.ListN.{length}
 use lib.Seq.{sets}
-use borrow.Author.Rules.{rules}
 use Rattle.book.specs.Book.{entry_bytes}
 use Rattle.book_put.specs.Put.{entry}
 use Rattle.book_put.proofs.Bytes.{length_entry}

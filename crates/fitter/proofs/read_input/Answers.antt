@@ -1,37 +1,36 @@
 -- `fitter::read_input` meets its contract: the records taken are those of the input that they are put together to. Assumes nothing.
-use mathlib.Core.Path.{sym, ◌∙◌}
 use mathlib.Core.Logic.{⊎_elim}
-use mathlib.Core.Bool.{true≢false}
-use native.Mathlib.Omega.{arith}
-use Rattle.sheet.proofs.Gluing.{reads_starts, reads_go_on, reads_stop, reads_close}
+use Rattle.std.proofs.Common.{ℕ, ◌≡◌, ◌+◌, ◌-◌, ◌<◌, arith, sym, ◌∙◌}
+use Rattle.std.specs.declared.ops.ControlFlow.TheVariants.{Continue, Break}
+use Rattle.gather.specs.Gathered.{most}
+use Rattle.sheet.specs.declared.Intake.{Intake}
+use Rattle.sheet.proofs.Gluing.{Reads, reads_starts, reads_go_on, reads_stop, reads_close}
+use Rattle.fitter.specs.Turned.{Turned}
 use Rattle.fitter.proofs.read_input.Goals as goal
 
-pub loop-left-init : goal.loop-left-init
-loop-left-init c = rw c.new-intake.ensures (omega arith, sym c.large_buffer-space.ensures, reads_starts)
+module _ {r : Intake} {left : ℕ} (h : Reads r left) (room : 0 < left) where
+  goes_on : (next : Intake) → Turned r (Continue next) → Reads next (left - 1)
+  goes_on next t = ⊎_elim (λ e. cc e) (λ e. rw e.is (reads_go_on h room e.head e.body e.taken)) t.by_one
 
-pub slice_bounds-take_record-end : goal.slice_bounds-take_record-end
-slice_bounds-take_record-end c = sym c.loop-left.invariant.1
+  stops : (last : Intake) → Turned r (Break last) → Reads last 0
+  stops last t =
+      ⊎_elim (λ e. let same : last ≡ r = cc e in rw same (reads_stop h)) (λ e. rw e.is (reads_stop (reads_go_on h room e.head e.body e.taken))) t.by_one
 
-pub take_record-turn-requires : goal.take_record-turn-requires
-take_record-turn-requires c = let i = c.loop-left.invariant in (i.0, omega (arith, i.1))
+pub loop-taken-init : goal.loop-taken-init
+loop-taken-init c = rw c.new-intake.ensures (record { near = omega arith; room = sym c.large_buffer-space.ensures; reads = reads_starts })
 
-pub loop-left-preserved-then-turn : goal.loop-left-preserved-then-turn
-loop-left-preserved-then-turn c =
-    let t = c.take_record-turn in
-    let i = c.loop-left.invariant in (
-      t.ensures.near,
-      t.auto.space ∙ i.1,
-      ⊎_elim (λ e. absurd (true≢false (sym c.if-turn.true ∙ e.0))) (λ e. rw e.is (reads_go_on i.2 (omega arith) e.head e.body e.taken)) t.ensures.by_one,
-    )
+pub returns-in-Break : goal.returns-in-Break
+returns-in-Break c = rw c.close.ensures (reads_close (stops c.loop-taken.invariant.reads (omega arith) _ c.in-Break.ensures))
 
-pub loop-left-preserved : goal.loop-left-preserved
-loop-left-preserved c =
-    let t = c.take_record-turn in
-    let i = c.loop-left.invariant in (
-      t.ensures.near,
-      t.auto.space ∙ i.1,
-      ⊎_elim (λ e. rw e.1 (reads_stop i.2)) (λ e. rw e.is (reads_stop (reads_go_on i.2 (omega arith) e.head e.body e.taken))) t.ensures.by_one,
-    )
+pub loop-taken-preserved : goal.loop-taken-preserved
+loop-taken-preserved c =
+    let i = c.loop-taken.invariant in
+    let one_less : (most - c.loop-taken._taken) - 1 ≡ most - (c.loop-taken._taken + 1) = omega arith in
+    record {
+      near = c.in-Continue.ensures.near;
+      room = c.take_record.auto.space ∙ i.room;
+      reads = rw (← one_less) (goes_on i.reads (omega arith) _ c.in-Continue.ensures);
+    }
 
 pub returns : goal.returns
-returns c = rw c.close.ensures (reads_close c.loop-left.invariant.2)
+returns c = rw c.close-2.ensures (reads_close c.loop-taken.invariant.reads)

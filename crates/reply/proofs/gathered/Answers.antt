@@ -26,7 +26,6 @@ offset_bounds-sheet-i-in-loop-i c = omega (arith, inside (goal.at.offset_bounds-
 pub with_knot-so_far-requires : goal.with_knot-so_far-requires
 with_knot-so_far-requires c = let q = (goal.at.with_knot-so_far-requires c).In-loop-i in rw q.loop-i.invariant.1.so_many (inside q)
 
-
 pub loop-i-smaller : goal.loop-i-smaller
 loop-i-smaller c = omega (arith, c.loop-i-test.true)
 

@@ -12,4 +12,3 @@ use Rattle.reply.proofs.gathered.Given as goal
 
 abbrev pub invariant-loop-i : goal.invariant-loop-i
 invariant-loop-i l = (l.sheet.knots ≤ most) × Going l.sheet l.logs l.so_far l.i
-

@@ -1,43 +1,22 @@
 -- `swing::gap_on` meets its contract: a loop over the minutes between the knots, that keeps what was reached
 -- to either side. Assumes nothing.
-use Prim.Native.Nat.{ℕ, ◌+◌, ◌-◌, ◌<◌, ◌^◌}
-use mathlib.Core.Path.{◌≡◌, refl, ap, ◌∙◌}
-use mathlib.Core.List.{List}
-use native.Mathlib.Omega.{arith}
-use lib.IntN.{pos}
-use lib.ListN.{get_or}
-use mir.Syntax.{w16, w32, w64}
-use mir.Val.{to_z}
-use mir.Facts.{to_z-of_z, to_z_pos}
-use borrow.Author.Rules.{rules}
-use Rattle.curve.specs.Card.{Card}
-use Rattle.knots.specs.Lent.{lent}
-use Rattle.lists.specs.Lists.{InPlace, curve_of}
+use Rattle.std.proofs.Common.{ℕ, ◌≡◌, refl, ap, ◌∙◌, ◌+◌, ◌-◌, ◌≤◌, ◌<◌, ◌^◌, List, arith, rules, pos, get_or, to_z, of_z, w16, w32, w64}
+use Rattle.std.proofs.lemmas.Int.{to_z-of_z, to_z_pos}
+use Rattle.lists.specs.Lists.{InPlace}
 use Rattle.lists.proofs.ByGap.{curve_laid, minute_laid, curve_reads}
 use Rattle.swing.specs.declared.Reach.{Reach}
 use Rattle.swing.specs.Swing.{below_at, above_at}
-use Rattle.swing.proofs.Peak.{peak_is, reached}
+use Rattle.swing.proofs.Peak.{peak_is}
 use Rattle.swing.proofs.Gaps.{wide, place, low_start, high_start, low_on, high_on, gap_reached}
+use Rattle.swing.proofs.gap_on.Invariants.{card}
 use Rattle.swing.proofs.gap_on.Goals as goal
 use Rattle.swing.proofs.gap_on.Goals.{After-loop-t, In-loop-t, Start}
 
-pub curve_at-curve-requires : goal.curve_at-curve-requires
-curve_at-curve-requires c =
-    let told = c.requires in record { checked = told.checked; i_in_bounds = told.j_in_bounds }
-
 pub overflow_sub-h : goal.overflow_sub-h
-overflow_sub-h c = let d = (goal.at.overflow_sub-h c).Start in omega (arith, wide d.requires.checked d.args.j d.requires.j_in_bounds)
-
-pub bounds-ys-j : goal.bounds-ys-j
-bounds-ys-j c = let d = (goal.at.bounds-ys-j c).Start in omega (arith, d.requires.j_in_bounds, d.requires.checked.long.ordinates)
-
-pub bounds-ys-j-2 : goal.bounds-ys-j-2
-bounds-ys-j-2 c = let d = (goal.at.bounds-ys-j-2 c).Start in omega (arith, d.requires.j_in_bounds, d.requires.checked.long.ordinates)
+overflow_sub-h c = omega (arith, wide c.args.lists.checked c.args.j c.requires)
 
 pub loop-t-init : goal.loop-t-init
-loop-t-init c =
-    let d = (goal.at.loop-t-init c).Start in
-    (omega (arith, wide d.requires.checked d.args.j d.requires.j_in_bounds), low_start d.requires.checked d.args.j d.requires.j_in_bounds, high_start d.requires.checked d.args.j d.requires.j_in_bounds)
+loop-t-init c = (low_start c.args.lists.checked c.args.j c.requires, high_start c.args.lists.checked c.args.j c.requires)
 
 -- ---- a minute
 
@@ -46,7 +25,7 @@ module _ (c : In-loop-t) where
   d = (goal.at.In-loop-t c).Start
 
   abbrev xs : List ℕ
-  xs = d.args.xs.now
+  xs = d.args.lists.minutes.now
 
   abbrev j : ℕ
   j = d.args.j
@@ -54,49 +33,37 @@ module _ (c : In-loop-t) where
   abbrev t : ℕ
   t = c.loop-t.t
 
-  more : t + 1 < get_or xs (j + 1) 0 - get_or xs j 0
-  more = omega (arith, c.loop-t-test.true)
+  before : t < get_or xs (j + 1) 0 - get_or xs j 0
+  before = c.loop-t-test.true
 
-  small : t + 1 < 2 ^ 16
-  small = omega (arith, more, (c.shared_slice_known-2-1.given (j + 1)).fits)
+  end_small : get_or xs (j + 1) 0 < 2 ^ 16
+  end_small = search rules
 
-  there : InPlace xs j (get_or xs j 0 + (t + 1))
-  there = place d.requires.checked j d.requires.j_in_bounds (t + 1) more
+  there : InPlace xs j (get_or xs j 0 + t)
+  there = place d.args.lists.checked j d.requires t before
 
   -- the minutes from the left knot, as the machine has them
-  t_is : to_z w64 (t + 1) ≡ pos (get_or xs j 0 + (t + 1) - get_or xs j 0)
-  t_is = let same : t + 1 ≡ get_or xs j 0 + (t + 1) - get_or xs j 0 = omega arith in to_z_pos w64 (omega (arith, small)) ∙ ap pos same
-
-  curve_is : (let a = d.args in c.curve_at-curve.result ≡ curve_of a.xs.now a.ys.now a.ms.now a.cs.now j)
-  curve_is = c.curve_at-curve.ensures
-
-pub overflow_add-t : goal.overflow_add-t
-overflow_add-t c =
-    let d = (goal.at.overflow_add-t c).Start in
-    omega (arith, c.loop-t.invariant.0, (c.shared_slice_known-2-1.given (d.args.j + 1)).fits)
-
-pub overflow_add-t-in-loop-t : goal.overflow_add-t-in-loop-t
-overflow_add-t-in-loop-t c = omega (arith, small c)
-
-pub overflow_cast-t : goal.overflow_cast-t
-overflow_cast-t c = record { sfits = omega (arith, small c) }
+  t_is : to_z w64 t ≡ pos (get_or xs j 0 + t - get_or xs j 0)
+  t_is = let same : t ≡ get_or xs j 0 + t - get_or xs j 0 = omega arith in to_z_pos w64 _ (omega (arith, before, end_small)) ∙ ap pos same
 
 pub value_at-value-requires : goal.value_at-value-requires
 value_at-value-requires c =
-    record { laid = curve_laid (d c).requires.checked (j c) (curve_is c) (there c); in_gap = minute_laid (d c).requires.checked (j c) (curve_is c) (there c) (t_is c) }
+    let k = (d c).args.lists.checked in
+    record { laid = curve_laid k (j c) c.curve-curve.ensures (there c); in_gap = minute_laid k (j c) c.curve-curve.ensures (there c) (t_is c) }
 
 pub loop-t-preserved : goal.loop-t-preserved
 loop-t-preserved c =
     let l = (goal.at.loop-t-preserved c).In-loop-t in
-    let s = d l in
-    let y-is = to_z-of_z {w = w16} (record { sfits = l.y-1.given }) in
-    let z-is = to_z-of_z {w = w16} (record { sfits = l.z-1.given }) in
+    let k = (d l).args.lists.checked in
+    let y-is : (let y = get_or (d l).args.lists.ordinates.now (j l) (pos 0) in to_z w16 (of_z w16 y) ≡ y) = search rules in
+    let z-is : (let z = get_or (d l).args.lists.ordinates.now (j l + 1) (pos 0) in to_z w16 (of_z w16 z) ≡ z) = search rules in
     let v = c.value_at-value in
-    let v-is = to_z-of_z {w = w32} {z = v.result} (record { sfits = v.type_inv }) ∙ v.ensures in
-    let e = curve_reads s.requires.checked (j l) (curve_is l) (there l) (t_is l) refl in (
-      more l,
-      low_on s.requires.checked (j l) s.requires.j_in_bounds (t l) (more l) e y-is z-is v-is l.loop-t.invariant.1 c.below.ensures c.or-low.ensures,
-      high_on s.requires.checked (j l) s.requires.j_in_bounds (t l) (more l) e y-is z-is v-is l.loop-t.invariant.2 c.above.ensures c.or-high.ensures,
+    let v-is = to_z-of_z w32 v.result (record { sfits = v.type_inv }) ∙ v.ensures in
+    let e = curve_reads k (j l) l.curve-curve.ensures (there l) (t_is l) refl in
+    let same : t l + 1 - 1 ≡ t l = omega arith in
+    rw same (
+      low_on k (j l) (d l).requires (t l) l.loop-t.auto.t (before l) e y-is z-is v-is l.loop-t.invariant.0 c.below.ensures c.or-low.ensures,
+      high_on k (j l) (d l).requires (t l) l.loop-t.auto.t (before l) e y-is z-is v-is l.loop-t.invariant.1 c.above.ensures c.or-high.ensures,
     )
 
 -- what was reached lies before the right knot
@@ -104,24 +71,25 @@ module _ (c : After-loop-t) where
   abbrev s : Start
   s = (goal.at.After-loop-t c).Start
 
-  abbrev card : Card
-  card = lent s.args.xs.now s.args.ys.now s.args.ms.now s.args.cs.now 0 0
+  -- all were read
+  all : c.loop-t.t - 1 + 1 ≡ get_or s.args.lists.minutes.now (s.args.j + 1) 0 - get_or s.args.lists.minutes.now s.args.j 0
+  all = let w : 1 ≤ get_or s.args.lists.minutes.now (s.args.j + 1) 0 - get_or s.args.lists.minutes.now s.args.j 0 = omega (arith, wide s.args.lists.checked s.args.j s.requires) in omega (arith, c.loop-t.auto.t, c.loop-t.auto.t-end w, c.loop-t-test.false)
 
-  low_inside : get_or s.args.xs.now s.args.j 0 + c.loop-t.low.at < 2 ^ 16
+  right : get_or s.args.lists.minutes.now (s.args.j + 1) 0 < 2 ^ 16
+  right = search rules
+
+  low_inside : get_or s.args.lists.minutes.now s.args.j 0 + c.loop-t.low.at < 2 ^ 16
   low_inside =
-      let l = c.loop-t in
-      omega (arith, l.invariant.0, ap (λ (r : Reach). r.at) l.invariant.1, (peak_is (below_at card s.args.j) l.t).inside, (c.shared_slice_known-2-1.given (s.args.j + 1)).fits)
+      omega (arith, all, right, wide s.args.lists.checked s.args.j s.requires, ap (λ (r : Reach). r.at) c.loop-t.invariant.0, (peak_is (below_at (card s.args.lists) s.args.j) (c.loop-t.t - 1)).inside)
 
-  high_inside : get_or s.args.xs.now s.args.j 0 + c.loop-t.high.at < 2 ^ 16
+  high_inside : get_or s.args.lists.minutes.now s.args.j 0 + c.loop-t.high.at < 2 ^ 16
   high_inside =
-      let l = c.loop-t in
-      omega (arith, l.invariant.0, ap (λ (r : Reach). r.at) l.invariant.2, (peak_is (above_at card s.args.j) l.t).inside, (c.shared_slice_known-2-1.given (s.args.j + 1)).fits)
+      omega (arith, all, right, wide s.args.lists.checked s.args.j s.requires, ap (λ (r : Reach). r.at) c.loop-t.invariant.1, (peak_is (above_at (card s.args.lists) s.args.j) (c.loop-t.t - 1)).inside)
 
 pub returns : goal.returns
 returns c =
-    let d = (goal.at.returns c).Start in
-    let l = c.loop-t in
-    gap_reached d.requires.checked d.args.j d.requires.j_in_bounds l.t (omega (arith, c.loop-t-test.false)) l.low l.high l.invariant.1 l.invariant.2
+    let l = (goal.at.returns c).After-loop-t in
+    gap_reached c.args.lists.checked c.args.j c.requires (c.loop-t.t - 1) (all l) c.loop-t.low c.loop-t.high c.loop-t.invariant.0 c.loop-t.invariant.1
 
 pub overflow_add-result : goal.overflow_add-result
 overflow_add-result c = omega (arith, low_inside (goal.at.overflow_add-result c).After-loop-t)

@@ -1,18 +1,10 @@
--- `swing::widest_on` meets its contract: a loop over the gaps, that keeps the one that goes furthest.
+-- `swing::widest_on`: the gap before place j that goes furthest.
 -- Assumes nothing.
-use Prim.Native.Nat.{◌+◌, ◌-◌, ◌≤◌}
-use mathlib.Core.Path.{◌≡◌, ap, ◌∙◌}
-use native.Mathlib.Omega.{arith}
-use lib.ListN.{length}
-use borrow.Author.Rules.{rules}
-use Rattle.curve.specs.Card.{knots}
+use Rattle.std.proofs.Common.{◌≡◌, ◌-◌}
 use Rattle.knots.specs.Lent.{lent}
-use Rattle.swing.specs.Swing.{peak, gap_swing, widest, widest_of}
-use Rattle.swing.proofs.Peak.{widest_so_far, widest_on}
+use Rattle.swing.specs.Swing.{gap_swing}
+use Rattle.swing.proofs.Peak.{widest_so_far}
 use Rattle.swing.proofs.widest_on.Given as goal
 
 abbrev pub invariant-loop-j : goal.invariant-loop-j
-invariant-loop-j l = (l.j + 2 ≤ length l.xs) × (l.widest ≡ widest_so_far (gap_swing (lent l.xs l.ys l.ms l.cs 0 0)) l.j)
-
-abbrev pub decreases-loop-j : goal.decreases-loop-j
-decreases-loop-j l = length l.xs - l.j
+invariant-loop-j l = l.widest ≡ widest_so_far (gap_swing (lent l.lists.minutes.now l.lists.ordinates.now l.lists.slopes.now l.lists.curvatures.now 0 0)) (l.j - 1)

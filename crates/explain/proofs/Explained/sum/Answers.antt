@@ -4,6 +4,7 @@ use mathlib.Core.List.{List, [], ◌∷◌}
 use Prim.Native.Nat.{◌+◌, ◌≤◌, ◌<◌, ◌^◌}
 use native.Mathlib.Omega.{arith}
 use lib.IntN.{ℤ, nat_abs, ◌+ℤ◌}
+use borrow.Author.Rules.{rules}
 use mir.Syntax.{w64}
 use Rattle.whole.proofs.Order.{abs_add}
 use Rattle.whole.proofs.Linear.{abs_fits}
@@ -77,26 +78,23 @@ module _ (c : Start) where
         left = record {
           left = record {
             left = record {
-              left = record { left = abs_fits (omega (arith, total)); right = abs_fits (omega (arith, total)); fits = abs_fits (omega (arith, total, p2)) };
-              right = abs_fits (omega (arith, total));
+              left = record { left = search rules; right = search rules; fits = abs_fits (omega (arith, total, p2)) };
+              right = search rules;
               fits = abs_fits (omega (arith, total, p2, p3));
             };
-            right = abs_fits (omega (arith, total));
+            right = search rules;
             fits = abs_fits (omega (arith, total, p2, p3, p4));
           };
-          right = abs_fits (omega (arith, total));
+          right = search rules;
           fits = abs_fits (omega (arith, total, p2, p3, p4, p5));
         };
-        right = abs_fits (omega (arith, total));
+        right = search rules;
         fits = abs_fits (omega (arith, total, p2, p3, p4, p5, p6));
       }
 
 pub returns : goal.returns
 unfolding sum
 returns c = let s = (goal.at.returns c).Start in gave w64 (args s) six (all s)
-
-pub overflow_add-result : goal.overflow_add-result
-overflow_add-result c = let s = (goal.at.overflow_add-result c).Start in does w64 (args s) two (all s).left.left.left.left
 
 pub overflow_add-result-2 : goal.overflow_add-result-2
 overflow_add-result-2 c = let s = (goal.at.overflow_add-result-2 c).Start in does w64 (args s) three (all s).left.left.left
