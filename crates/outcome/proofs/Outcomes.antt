@@ -451,6 +451,12 @@ module _ {K A S : Type 0} (rooms : K → A → Answer (List Entry)) (entry : K �
 pub answer : Once reason-number.Post × Once refusal-number.Post × Once refuse.Post × Once first.Post
 answer = (equation _ _, equation _ _, judgement _, judgement _)
 
+-- of a check that answers at each place as a step says, whatever its type
+pub answer_each :
+    (F : _) (laws : _) (check : _) (d e f g : _) (step : ℕ → Verdict)
+    → Once (λ κs a x s. AnswersAs (λ i. check.post a.1.0 (i, tt)) a.0 step × each.Post F laws check d e f g κs a x s)
+answer_each F laws check d e f g step κs a x y s t p q = one_judgement (p.1 step p.0) (q.1 step q.0)
+
 pub whole : Once nearest-unsigned.Post × Once nearest.Post
 whole = (equation _ _, equation _ _)
 
