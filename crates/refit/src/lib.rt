@@ -12,15 +12,18 @@ ghost use Rattle.fit.specs.Promise.{Fits};
 ghost use Rattle.slope_fit.specs.SlopesFit.{slopes_fit};
 ghost use Rattle.refit.specs.Differing.{differing};
 ghost use Rattle.refit.specs.Fresh.{fresh_between, fresh};
-ghost use Rattle.refit.specs.Promise.{changed, Refits, Renews};
+ghost use Rattle.refit.specs.Promise.{changed, refitted, Refits, Renews};
+ghost use Rattle.answer.specs.Answer.{refused};
+ghost use Rattle.answer.specs.Judge.{number_of};
+ghost use Rattle.curve.specs.Card.{Card};
 
-use answer::Judged;
-use decode::Card;
+use answer::Refusal;
+use decode::Card as Decoded;
 use knots::Kind;
 use lines::hundredths;
 use opened::Opened;
 
-// Zeros behind a refusal.
+// Zeros behind a refusal. C receives it so.
 #[repr(C)]
 #[derive(Drop)]
 pub struct Refitted {
@@ -30,24 +33,36 @@ pub struct Refitted {
     pub changed: u32,
 }
 
+#[tactic(auto, unfolding(crate::specs::Promise::refitted))]
+impl From<Refusal> for Refitted {
+    ghost from_gives = { λ refusal r. (c : Card) → r ≡ refitted c (refused (number_of refusal.reason) refusal.place) };
+
+    fn from(refusal: Refusal) -> Refitted {
+        Refitted {
+            number: refusal.number(),
+            place: refusal.place,
+            knots: 0,
+            changed: 0,
+        }
+    }
+}
+
 // At how many places two lists differ.
 fn differing(held: &[i32], anew: &[i32]) -> u32
     requires { (length held.now ≤ most) × (length anew.now ≡ length held.now) }
     ensures { (result ≡ differing ℤ_discrete held.now anew.now) × (result ≤ most) }
 {
     let mut count = 0;
-    let mut i = 0;
-    while i < held.len() {
+    for i in 0..held.len() {
         if held[i] != anew[i] {
             count += 1;
         }
-        i += 1;
     }
     count
 }
 
 // The fresh fit of a card between its ends, to lists of its n places.
-fn fresh_between(card: Card, slopes: &mut [i32], curvatures: &mut [i32]) -> fit::Fitted
+fn fresh_between(card: Decoded, slopes: &mut [i32], curvatures: &mut [i32]) -> fit::Fitted
     requires full { Full card × (0 < card.knots) }
     requires slopes_len { (length slopes.old ≡ card.knots) × (length curvatures.old ≡ card.knots) }
     ensures { Fits (fresh_between (decoded card)) slopes.old curvatures.old slopes.new curvatures.new result }
@@ -73,7 +88,7 @@ fn fresh_between(card: Card, slopes: &mut [i32], curvatures: &mut [i32]) -> fit:
 }
 
 // Of its curvatures alone, by its own slopes, which are given back.
-fn fresh_by_slopes(card: Card, slopes: &mut [i32], curvatures: &mut [i32]) -> fit::Fitted
+fn fresh_by_slopes(card: Decoded, slopes: &mut [i32], curvatures: &mut [i32]) -> fit::Fitted
     requires full { Full card }
     requires slopes_len { (length slopes.old ≡ card.knots) × (length curvatures.old ≡ card.knots) }
     ensures { Fits (slopes_fit (decoded card).minutes (decoded card).ordinates (decoded card).slopes (length curvatures.old))
@@ -85,13 +100,13 @@ fn fresh_by_slopes(card: Card, slopes: &mut [i32], curvatures: &mut [i32]) -> fi
     let own = card.slopes;
     let fitted = slope_fit::fit(&minutes[..n], &ordinates[..n], &own[..n], curvatures);
     if fitted.number == 0 {
-        numbers::write(slopes, own);
+        numbers::write(slopes, &own);
     }
     fitted
 }
 
 // As the card's kind is fitted.
-fn fresh(kind: Kind, card: Card, slopes: &mut [i32], curvatures: &mut [i32]) -> fit::Fitted
+fn fresh(kind: Kind, card: Decoded, slopes: &mut [i32], curvatures: &mut [i32]) -> fit::Fitted
     requires full { Full card × (0 < card.knots) }
     requires slopes_len { (length slopes.old ≡ card.knots) × (length curvatures.old ≡ card.knots) }
     ensures { Fits (fresh (kind_of kind) (decoded card)) slopes.old curvatures.old slopes.new curvatures.new result }
@@ -103,7 +118,7 @@ fn fresh(kind: Kind, card: Card, slopes: &mut [i32], curvatures: &mut [i32]) -> 
 }
 
 // How many of a card's numbers are not those of two lists of its n places.
-fn changed(card: Card, slopes: &[i32], curvatures: &[i32]) -> u32
+fn changed(card: Decoded, slopes: &[i32], curvatures: &[i32]) -> u32
     requires full { Full card }
     requires slopes_len { (length slopes.now ≡ card.knots) × (length curvatures.now ≡ card.knots) }
     ensures { result ≡ changed (decoded card) slopes.now curvatures.now }
@@ -115,7 +130,7 @@ fn changed(card: Card, slopes: &[i32], curvatures: &[i32]) -> u32
 }
 
 // The fit's own refusals; the numbers are written and counted where it has none.
-fn anew(kind: Kind, card: Card, slopes: &mut [i32], curvatures: &mut [i32]) -> Refitted
+fn anew(kind: Kind, card: Decoded, slopes: &mut [i32], curvatures: &mut [i32]) -> Refitted
     requires full { Full card × (0 < card.knots) }
     requires slopes_len { (length slopes.old ≡ card.knots) × (length curvatures.old ≡ card.knots) }
     ensures { Renews (kind_of kind) (decoded card) slopes.old curvatures.old slopes.new curvatures.new result }
@@ -146,13 +161,8 @@ pub fn refit(card: &[u8], slopes: &mut [i32], curvatures: &mut [i32]) -> Refitte
     let held = opened.card;
     let n = held.knots;
     let lent = slopes.len();
-    match card::into(opened, lent, lent, lent, curvatures.len()) {
-        Judged::Refused(number, place) => Refitted {
-            number,
-            place,
-            knots: 0,
-            changed: 0,
-        },
-        Judged::Accepted => anew(kind, held, &mut slopes[..n], &mut curvatures[..n]),
+    match card::into(&opened, lent, lent, lent, curvatures.len()) {
+        Err(refusal) => Refitted::from(refusal),
+        Ok(()) => anew(kind, held, &mut slopes[..n], &mut curvatures[..n]),
     }
 }

@@ -2,7 +2,6 @@
 use mathlib.Core.Path.{sym}
 use Rattle.opened.proofs.Fronts.{knots_decoded}
 use Rattle.refit.proofs.Renewal.{renews_given, renews_refused}
-use borrow.Author.Rules.{rules}
 use Rattle.refit.proofs.anew.Goals as goal
 use Rattle.refit.proofs.anew.Goals.{After-fresh-arg-1}
 

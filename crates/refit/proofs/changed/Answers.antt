@@ -5,7 +5,6 @@ use mathlib.Core.Path.{sym, ap₂, ◌∙◌}
 use lib.Seq.{length-take-le}
 use Rattle.decode.specs.Decoded.{decoded}
 use Rattle.refit.specs.Promise.{changed}
-use borrow.Author.Rules.{rules}
 use Rattle.refit.proofs.changed.Goals as goal
 use Rattle.refit.proofs.changed.Goals.{Start}
 

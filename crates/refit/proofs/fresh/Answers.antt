@@ -5,7 +5,6 @@ use Rattle.decode.specs.Decoded.{decoded}
 use Rattle.fit.proofs.Fitting.{fits_along}
 use Rattle.opened.proofs.Fronts.{knots_decoded}
 use Rattle.refit.proofs.Renewal.{fresh_of_ends, fresh_of_slopes}
-use borrow.Author.Rules.{rules}
 use Rattle.refit.proofs.fresh.Goals as goal
 use Rattle.refit.proofs.fresh.Goals.{Start}
 

@@ -6,7 +6,6 @@ use lib.Seq.{length-take-le}
 use Rattle.decode.specs.Decoded.{decoded}
 use Rattle.slope_fit.proofs.Numbered.{slopes_fit_numbered}
 use Rattle.refit.proofs.Renewal.{given_back, left_alone}
-use borrow.Author.Rules.{rules}
 use Rattle.refit.proofs.fresh_by_slopes.Goals as goal
 use Rattle.refit.proofs.fresh_by_slopes.Goals.{Start}
 

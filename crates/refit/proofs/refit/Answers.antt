@@ -17,27 +17,24 @@ use Rattle.opened.proofs.Fronts.{knots_held}
 use Rattle.opened.proofs.Opening.{opened_kind, accepted_holds}
 use Rattle.card.specs.Answers.{own}
 use Rattle.card.proofs.Lists.{opened_order, Taken, order_takes}
+use Rattle.refit.specs.Promise.{refitted}
 use Rattle.refit.proofs.Renewal.{refits_refused, refits_given}
-use borrow.Author.Rules.{rules}
 use Rattle.refit.proofs.refit.Goals as goal
-use Rattle.refit.proofs.refit.Goals.{After-into, In-Accepted}
-
-pub into-requires : goal.into-requires
-into-requires c = search rules
+use Rattle.refit.proofs.refit.Goals.{After-into, In-Ok}
 
 verdict_is : (c : After-into)
     → (let a = c.args in let s = a.card.now in let m = length a.slopes.now in
     verdict_of c.into.result ≡ lists_order m m m (length a.curvatures.now) (own s) (knots (card_of s)))
 verdict_is c = c.into.ensures ∙ opened_order _ _ _ _ _ c.by_head-opened.ensures
 
-took : (c : In-Accepted) → (let a = c.args in let m = length a.slopes.now in Taken m m m (length a.curvatures.now) a.card.now)
-took c = order_takes _ _ _ _ _ (step_accepts (verdict_is (goal.at.In-Accepted c).After-into) c.in-Accepted.is)
+took : (c : In-Ok) → (let a = c.args in let m = length a.slopes.now in Taken m m m (length a.curvatures.now) a.card.now)
+took c = order_takes _ _ _ _ _ (step_accepts (verdict_is (goal.at.In-Ok c).After-into) c.in-Ok.is)
 
-holds : (c : In-Accepted) → Holds c.by_head-opened.result.card c.args.card.now
+holds : (c : In-Ok) → Holds c.by_head-opened.result.card c.args.card.now
 holds c = accepted_holds c.by_head-opened.ensures (took c).own
 
 -- both lists have a place for each knot
-room : (c : In-Accepted)
+room : (c : In-Ok)
     → (let a = c.args in let n = c.by_head-opened.result.card.knots in
     (n ≤ length a.slopes.now) × (n ≤ length a.curvatures.now))
 room c = (omega (arith, (took c).room, knots_held (holds c)), omega (arith, (took c).room, (took c).curvatures, knots_held (holds c)))
@@ -45,26 +42,27 @@ room c = (omega (arith, (took c).room, knots_held (holds c)), omega (arith, (too
 pub slice_bounds-anew-end : goal.slice_bounds-anew-end
 slice_bounds-anew-end c = (room c).0
 
-pub slice_bounds-anew-end-in-Accepted : goal.slice_bounds-anew-end-in-Accepted
-slice_bounds-anew-end-in-Accepted c = sym (length-take-le _ _ (room (goal.at.slice_bounds-anew-end-in-Accepted c).In-Accepted).0)
+pub slice_bounds-anew-end-in-Ok : goal.slice_bounds-anew-end-in-Ok
+slice_bounds-anew-end-in-Ok c = sym (length-take-le _ _ (room (goal.at.slice_bounds-anew-end-in-Ok c).In-Ok).0)
 
-pub slice_bounds-anew-end-in-Accepted-2 : goal.slice_bounds-anew-end-in-Accepted-2
-slice_bounds-anew-end-in-Accepted-2 c = (room (goal.at.slice_bounds-anew-end-in-Accepted-2 c).In-Accepted).1
+pub slice_bounds-anew-end-in-Ok-2 : goal.slice_bounds-anew-end-in-Ok-2
+slice_bounds-anew-end-in-Ok-2 c = (room (goal.at.slice_bounds-anew-end-in-Ok-2 c).In-Ok).1
 
-pub slice_bounds-anew-end-in-Accepted-3 : goal.slice_bounds-anew-end-in-Accepted-3
-slice_bounds-anew-end-in-Accepted-3 c = sym (length-take-le _ _ (room (goal.at.slice_bounds-anew-end-in-Accepted-3 c).In-Accepted).1)
+pub slice_bounds-anew-end-in-Ok-3 : goal.slice_bounds-anew-end-in-Ok-3
+slice_bounds-anew-end-in-Ok-3 c = sym (length-take-le _ _ (room (goal.at.slice_bounds-anew-end-in-Ok-3 c).In-Ok).1)
 
 pub anew-requires : goal.anew-requires
 unfolding quintic
 anew-requires c =
-    let t = (goal.at.anew-requires c).In-Accepted in
+    let t = (goal.at.anew-requires c).In-Ok in
     let h = holds t in record { full = (h.full, omega (arith, (accepted_count _ (took t).own).some, knots_held h)); slopes_len = (length-take-le _ _ (room t).0, length-take-le _ _ (room t).1) }
 
-pub returns-in-Refused : goal.returns-in-Refused
-returns-in-Refused c = refits_refused _ _ _ (step_refused (verdict_is (goal.at.returns-in-Refused c).After-into) c.in-Refused.is)
+pub returns-in-Err : goal.returns-in-Err
+unfolding refitted
+returns-in-Err c = rw (c.from.ensures (card_of c.args.card.now)) (refits_refused _ _ _ (step_refused (verdict_is (goal.at.returns-in-Err c).After-into) c.in-Err.is))
 
-pub returns-in-Accepted : goal.returns-in-Accepted
-returns-in-Accepted c =
-    let t = (goal.at.returns-in-Accepted c).In-Accepted in
+pub returns-in-Ok : goal.returns-in-Ok
+returns-in-Ok c =
+    let t = (goal.at.returns-in-Ok c).In-Ok in
     let h = holds t in
-    refits_given _ _ _ (step_accepts (verdict_is (goal.at.In-Accepted t).After-into) t.in-Accepted.is) (opened_kind t.by_head-opened.ensures) (sym (knots_held h)) (rw h.is at c.anew.ensures)
+    refits_given _ _ _ (step_accepts (verdict_is (goal.at.In-Ok t).After-into) t.in-Ok.is) (opened_kind t.by_head-opened.ensures) (sym (knots_held h)) (rw h.is at c.anew.ensures)
