@@ -1,4 +1,3 @@
-// READ /work/h2/READ_ME_FIRST_AFTER_slope_fit.txt before this crate.
 // Mending a sheet with holes: document 02, order 1. Each hole gets the straight line between the nearest sound knots, and the mended sheet is fitted between free ends before anything lent is
 // written. The changes are answered by value; `fill` puts them into a lent list.
 #![tactic(auto)]

@@ -1,4 +1,5 @@
 pub mod Places
+pub mod Given
 pub mod Renewal
 pub mod Unchanged
 pub mod NeverSeven
