@@ -1,12 +1,12 @@
 -- For every public function, crate by crate: two outcomes that both meet its promise are the same, in the result and in each list that the function is lent to
 -- change. One law where the promise is an equation, and one where it is an equation of what an answer means. Assumes nothing.
-use mathlib.Core.Path.{◌≡◌, refl, ap, ap₂}
+use mathlib.Core.Path.{◌≡◌, refl, sym, ap, ap₂}
 use native.Mathlib.Omega.{arith}
 use mathlib.Core.List.{List, []}
 use Prim.Native.Nat.{ℕ}
 use lib.IntN.{ℤ}
 use Rattle.std.specs.Prelude.{Result, Ok, Err}
-use Rattle.answer.specs.Answer.{Answer, Verdict, refused}
+use Rattle.answer.specs.Answer.{Answer, Verdict, refused, number, place}
 use Rattle.answer.specs.Judge.{Judged, number_of, verdict_of, AnswersAs}
 use Rattle.answer.specs.declared.Refusal.{Refusal}
 use Rattle.answer.proofs.Outcome.{one_outcome, one_judgement}
@@ -97,6 +97,7 @@ use Rattle.table.specs.declared.Tabled.{Tabled}
 use Rattle.table.specs.Promise.{Columns, Tables}
 use Rattle.table.proofs.TabledFromRefusal.from.Reads as tabled-refused
 use Rattle.table.proofs.table.Reads as table
+use Rattle.swing.proofs.SwungFromRefusal.from.Reads as swung-refused
 use Rattle.swing.proofs.gap.Reads as swing-gap
 use Rattle.swing.proofs.swing.Reads as swing
 use Rattle.explain.proofs.Explained.sum.Reads as explained-sum
@@ -142,10 +143,11 @@ use Rattle.numbers.proofs.scale.Reads as scale
 use Rattle.numbers.proofs.write.Reads as write-numbers
 use Rattle.fit.specs.declared.Fitted.{Fitted}
 use Rattle.fit.specs.Jobs.{handed}
-use Rattle.fit.specs.Promise.{Fits}
+use Rattle.fit.specs.Promise.{fitted_of, Fits}
 use Rattle.fit.proofs.Outcome.{one_fit}
 use Rattle.fit.proofs.FittedFromJudged.from.Reads as fitted-judged
 use Rattle.fit.proofs.work_out.Reads as work_out
+use Rattle.fit.proofs.fit_into.Reads as fit_into
 use Rattle.fit.proofs.fit_between.Reads as fit_between
 use Rattle.fit.proofs.fit_codes.Reads as fit_codes
 use Rattle.fit.proofs.fit.Reads as fit
@@ -221,6 +223,7 @@ use Rattle.mend.specs.declared.Change.{Change}
 use Rattle.mend.specs.declared.Plan.{Plan}
 use Rattle.mend.specs.declared.Mended.{Mended}
 use Rattle.mend.specs.Promise.{Plans, Mends}
+use Rattle.mend.proofs.Planning.{numbered}
 use Rattle.mend.proofs.Plan.unchanged.Reads as plan-unchanged
 use Rattle.mend.proofs.Plan.len.Reads as plan-len
 use Rattle.mend.proofs.Plan.answer.Reads as plan-answer
@@ -354,6 +357,24 @@ module _ {K A S : Type 0} (fit : K → A → Answer Card) (ms Ms : K → A → L
 
   fitting : Once Fitting × Lent Fitting ms' × Lent Fitting Ms'
   fitting = ((λ κs a x y s t p q. (one_fit p q).0), (λ κs a x y s t p q. (one_fit p q).1), λ κs a x y s t p q. (one_fit p q).2)
+
+-- number and place belong to one judgement only
+one_fitted : (a b : Judged) → fitted_of a ≡ fitted_of b → a ≡ b
+unfolding number place
+one_fitted (Ok u) (Ok v) e = refl
+one_fitted (Ok u) (Err q) e = absurd (numbered q.reason (sym (ap (λ f. f.number) e)))
+one_fitted (Err r) (Ok v) e = absurd (numbered r.reason (ap (λ f. f.number) e))
+one_fitted (Err r) (Err q) e =
+    let n : number_of r.reason ≡ number_of q.reason = ap (λ f. f.number) e in
+    let p : r.place ≡ q.place = ap (λ f. f.place) e in
+    one_judgement {a = Err r} {b = Err q} (ap₂ refused n p) refl
+
+module _ {K A S : Type 0} (fit : K → A → Answer Card) (ms Ms : K → A → List ℤ) (ms' Ms' : S → List ℤ) where
+  abbrev FittingJudged : K → A → Judged → S → Type 0
+  FittingJudged κs a x s = Fits (fit κs a) (ms κs a) (Ms κs a) (ms' s) (Ms' s) (fitted_of x)
+
+  fitting_judged : Once FittingJudged × Lent FittingJudged ms' × Lent FittingJudged Ms'
+  fitting_judged = ((λ κs a x y s t p q. one_fitted x y (one_fit p q).0), (λ κs a x y s t p q. (one_fit p q).1), λ κs a x y s t p q. (one_fit p q).2)
 
 -- the slopes are lent to be read
 module _ {K A S : Type 0} (fit : K → A → Answer Card) (ms Ms : K → A → List ℤ) (Ms' : S → List ℤ) where
@@ -519,11 +540,8 @@ decode_given = given _ _ _ _ _ _ _ _
 pub opened : Once opened-by-head.Post × Means opened-lists.Post (λ κs a x s. lent x.minutes.now x.ordinates.now x.slopes.now x.curvatures.now a.0.now.left a.0.now.right)
 opened = ((λ κs a x y s t. one_opened), meant _ _)
 
-pub card : Once checked-refused.Post × Once check.Post × Once into.Post × Once reading.Post
-card = ((λ κs a x y s t p q. one_outcome (p quintic no_card) (q quintic no_card)), equation _ _, judgement _, equation _ _)
-  where
-    no_card : Card
-    no_card = lent [] [] [] [] 0 0
+pub card : Once check.Post × Once into.Post × Once reading.Post
+card = (equation _ _, judgement _, equation _ _)
 
 pub card_read : Once read.Post × Four (λ s. s.1.0.now) (λ s. s.1.1.0.now) (λ s. s.1.1.1.0.now) (λ s. s.1.1.1.1.0.now) read.Post
 card_read = reading_into _ _ _
@@ -531,9 +549,6 @@ card_read = reading_into _ _ _
 -- the three lists follow the card and the minute
 pub card_tabled : Once table.Post × Lent table.Post (λ s. s.1.1.0.now) × Lent table.Post (λ s. s.1.1.1.0.now) × Lent table.Post (λ s. s.1.1.1.1.0.now)
 card_tabled = tabling _ _ _ _
-
-pub refusals : Once tabled-refused.Post × Once written-refused.Post × Once explained-refused.Post × Once preheat-refused.Post × Once fitted-judged.Post
-refusals = ((λ κs a x y s t p q. one_outcome (p 0) (q 0)), (λ κs a x y s t p q. one_outcome (p 0) (q 0)), equation _ _, equation _ _, equation _ _)
 
 pub card_swung : Once swing-gap.Post × Once swing.Post
 card_swung = (equation _ _, equation _ _)
@@ -543,6 +558,20 @@ card_explained = (with_more _ _ (equation _ _), equation _ _)
 
 pub cubic : Once cubic-entry.Post × Once unknowns-check.Post × Once unknowns-value-at.Post × Once unknowns-at.Post × Once unknown-at.Post × Once preheat-value.Post
 cubic = (equation _ _, judgement _, equation _ _, equation _ _, (λ κs a x y s t p q. one_result x y (one_outcome p q)), equation _ _)
+
+-- a refusal stands in each answer beside zeros, whatever the card, its kind or the count
+pub refused_answers : Once checked-refused.Post × Once tabled-refused.Post × Once swung-refused.Post × Once explained-refused.Post × Once written-refused.Post × Once preheat-refused.Post
+refused_answers = (
+  (λ κs a x y s t p q. one_outcome (p quintic no_card) (q quintic no_card)),
+  (λ κs a x y s t p q. one_outcome (p 0) (q 0)),
+  (λ κs a x y s t p q. one_outcome (p no_card) (q no_card)),
+  equation _ _,
+  (λ κs a x y s t p q. one_outcome (p 0) (q 0)),
+  equation _ _,
+)
+  where
+    no_card : Card
+    no_card = lent [] [] [] [] 0 0
 
 -- the buffer is the seventh
 pub card_written : Once write.Post × Lent write.Post (λ s. s.1.1.1.1.1.1.0.now)
@@ -590,10 +619,13 @@ pub ends : Once code.Post × Once end_by.Post × Once given-ends.Post
 ends = (equation _ _, equation _ _, judgement _)
 
 -- the numbers are told by the card that they make of the knots
-pub fit_worked_out : Means work_out.Post (λ κs a x s. handed a.0.now a.1.0.now a.1.1.0.now a.1.1.1.0 x)
-fit_worked_out = meant _ _
+pub fit_worked_out : Once fitted-judged.Post × Means work_out.Post (λ κs a x s. handed a.0.now a.1.0.now a.1.1.0.now a.1.1.1.0 x)
+fit_worked_out = (equation _ _, meant _ _)
 
 -- slopes and curvatures are the third and the fourth parameter
+pub fit_behind_codes : Once fit_into.Post × Lent fit_into.Post (λ s. s.1.1.0.now) × Lent fit_into.Post (λ s. s.1.1.1.0.now)
+fit_behind_codes = fitting_judged _ _ _ _ _
+
 pub fit_by_kinds : Once fit_between.Post × Lent fit_between.Post (λ s. s.1.1.0.now) × Lent fit_between.Post (λ s. s.1.1.1.0.now)
 fit_by_kinds = fitting _ _ _ _ _
 
