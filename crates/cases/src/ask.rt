@@ -252,13 +252,8 @@ fn mend(
     let plan = mend::mend(minutes, ordinates, slopes, curvatures, room);
     let verdict = Verdict(plan.number, plan.place);
     print!(rt; "mend {verdict}; count {}", plan.count)?;
-    let changes = plan
-        .places
-        .iter()
-        .zip(plan.olds.iter())
-        .zip(plan.news.iter());
-    for ((place, old), new) in changes.take(plan.count as usize) {
-        print!(rt; "; change {place} {old} {new}")?;
+    for change in plan.changes.iter().take(plan.count as usize) {
+        print!(rt; "; change {} {} {}", change.place, change.old, change.new)?;
     }
     print!(rt; "; ordinates{}", Numbers(ordinates))?;
     print_slopes(rt, slopes, curvatures)

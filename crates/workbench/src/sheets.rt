@@ -85,11 +85,10 @@ fn fit_text(rt: HostRuntime, source: Source, wish: Wish, left: End, right: End) 
 
 // A line for each knot that was mended.
 fn tell_changes(rt: HostRuntime, file: &[u8], plan: Plan, lines: &[u32]) {
-    let changes = plan.places.iter().zip(plan.news.iter());
-    for (knot, new) in changes.take(plan.count as usize) {
-        let line = at(lines, *knot as usize);
+    for change in front(&plan.changes, plan.count as usize) {
+        let line = at(lines, change.place as usize);
         let mut said = io::buffer();
-        let n = words::mended_line(&mut said, line, *knot, *new);
+        let n = words::mended_line(&mut said, line, change.place, change.new);
         crate::tell::complain(rt, file);
         crate::tell::complain(rt, front(&said, n));
     }

@@ -125,9 +125,9 @@ impl Warner<'_> {
     }
 
     // Of the gap before knot i.
-    fn gap(self, rt: HostRuntime, card: Card, i: usize) -> Done
-        requires readable { Readable card }
-        requires i_nonzero { (0 < i) × (i < card.knots) }
+    fn gap(self, rt: HostRuntime, card: &Card, i: usize) -> Done
+        requires readable { Readable card.now }
+        requires i_nonzero { (0 < i) × (i < card.now.knots) }
     {
         let swing = swing::gap(card, i - 1);
         let gap = Gap {
@@ -157,8 +157,8 @@ impl Warner<'_> {
         below.max(above)
     }
 
-    fn gaps(self, rt: HostRuntime, card: Card) -> Done
-        requires { Readable card }
+    fn gaps(self, rt: HostRuntime, card: &Card) -> Done
+        requires { Readable card.now }
     {
         let mut done = Ok(());
         for i in 1..card.knots {
@@ -173,7 +173,7 @@ impl Warner<'_> {
         let opened = Opened::by_head(bytes);
         match opened.verdict {
             Err(_) => Ok(()),
-            Ok(()) => self.gaps(rt, opened.card),
+            Ok(()) => self.gaps(rt, &opened.card),
         }
     }
 }
