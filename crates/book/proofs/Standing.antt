@@ -10,7 +10,6 @@ use lib.Seq.{length-take-le}
 use lib.Dec.{leb}
 use borrow.Author.Tests.{le-leb, lt-leb, leb-true}
 use Rattle.answer.specs.Answer.{Answer, refused, given}
-use Rattle.answer.proofs.Steps.{not_both}
 use Rattle.little_endian.specs.Numbers.{num_at}
 use Rattle.record.specs.Record.{is_at}
 use Rattle.record.proofs.Records.{standing}
@@ -22,13 +21,13 @@ use Rattle.book.specs.declared.Step.TheVariants.{Room, Close, Wrong}
 -- a number and values belong to one step only, so that a promise of them leaves one outcome
 pub one_step : (at : ℕ) (a b : Step) → step_of at a ≡ step_of at b → a ≡ b
 one_step at (Room r n) (Room q m) e = cc
-one_step at (Room r n) Close e = let z : ◌≡◌ {A = ℕ} 0 1 = cc in absurd (omega arith)
-one_step at (Room r n) Wrong e = absurd (not_both (sym e))
-one_step at Close (Room r n) e = let z : ◌≡◌ {A = ℕ} 0 1 = cc in absurd (omega arith)
+one_step at (Room r n) Close e = cc
+one_step at (Room r n) Wrong e = cc
+one_step at Close (Room r n) e = cc
 one_step at Close Close e = refl
-one_step at Close Wrong e = absurd (not_both (sym e))
-one_step at Wrong (Room r n) e = absurd (not_both e)
-one_step at Wrong Close e = absurd (not_both e)
+one_step at Close Wrong e = cc
+one_step at Wrong (Room r n) e = cc
+one_step at Wrong Close e = cc
 one_step at Wrong Wrong e = refl
 
 module _ (s : List ℕ) (at : ℕ) where
@@ -113,22 +112,22 @@ module _ (s : List ℕ) (at : ℕ) where
   abbrev step_by : Bool → Bool → Answer Standing
   step_by a b = cond a (given close) (cond b (given (room (num_at 2 s (at + 4)) (next s at))) (refused 14 at))
 
-  pub told_close : {r : Step} → step_of at r ≡ step_at s at → r ≡ Close → closes s at ≡ true
+  pub told_close : given close ≡ step_at s at → closes s at ≡ true
   unfolding step_at
-  told_close p q = go (closes s at) (holds s at) (sym p ∙ ap (step_of at) q)
+  told_close p = go (closes s at) (holds s at) (sym p)
     where
       go : (a b : Bool) → step_by a b ≡ given close → a ≡ true
       go true b e = refl
-      go false true e = let z : ◌≡◌ {A = ℕ} 0 1 = cc in absurd (omega arith)
-      go false false e = let z : ◌≡◌ {A = ℕ} 0 1 = cc in absurd (omega arith)
+      go false true e = cc
+      go false false e = cc
 
-  pub told_wrong : {r : Step} → step_of at r ≡ step_at s at → r ≡ Wrong → (closes s at ≡ false) × (holds s at ≡ false)
+  pub told_wrong : refused 14 at ≡ step_at s at → (closes s at ≡ false) × (holds s at ≡ false)
   unfolding step_at
-  told_wrong p q = go (closes s at) (holds s at) (sym p ∙ ap (step_of at) q)
+  told_wrong p = go (closes s at) (holds s at) (sym p)
     where
       go : (a b : Bool) → step_by a b ≡ refused 14 at → (a ≡ false) × (b ≡ false)
-      go true b e = let z : ◌≡◌ {A = ℕ} 0 1 = cc in absurd (omega arith)
-      go false true e = let z : ◌≡◌ {A = ℕ} 0 1 = cc in absurd (omega arith)
+      go true b e = cc
+      go false true e = cc
       go false false e = (refl, refl)
 
   pub record Told (r behind : ℕ) : Type 0 where
@@ -137,11 +136,11 @@ module _ (s : List ℕ) (at : ℕ) where
     pub number : r ≡ (entry_at s at).room
     pub end : behind ≡ next s at
 
-  pub told_room : {r : Step} {number behind : ℕ} → step_of at r ≡ step_at s at → r ≡ Room number behind → Told number behind
+  pub told_room : {number behind : ℕ} → given (room number behind) ≡ step_at s at → Told number behind
   unfolding step_at entry_at
-  told_room {r} {number} {behind} p q = go (closes s at) (holds s at) refl refl (sym p ∙ ap (step_of at) q)
+  told_room {number} {behind} p = go (closes s at) (holds s at) refl refl (sym p)
     where
       go : (a b : Bool) → closes s at ≡ a → holds s at ≡ b → step_by a b ≡ given (room number behind) → Told number behind
-      go true b f g e = let z : ◌≡◌ {A = ℕ} 0 1 = cc in absurd (omega arith)
+      go true b f g e = cc
       go false true f g e = record { goes_on = f; is = g; number = cc; end = cc }
-      go false false f g e = let z : ◌≡◌ {A = ℕ} 0 1 = cc in absurd (omega arith)
+      go false false f g e = cc

@@ -10,6 +10,7 @@ use native.Mathlib.Omega.{arith}
 use lib.Dec.{lit<}
 use lib.IntN.{ℤ}
 use lib.ListN.{length}
+use Rattle.std.specs.Prelude.{Option}
 use Rattle.answer.specs.Answer.{accepted, number, refuse, each}
 use Rattle.answer.specs.Judge.{numbered}
 use Rattle.answer.proofs.Never.{Never, never_number, never_then, never_each, given_never, never_other as other}
@@ -21,13 +22,12 @@ use Rattle.curve.proofs.NeverTen.{Enough, quintic_enough, sloped_enough, smooth_
 use Rattle.rows.specs.declared.Pair.{Pair}
 use Rattle.rows.specs.declared.End.TheVariants.{Free}
 use Rattle.elimination.specs.declared.State.{State}
-use Rattle.elimination.specs.declared.Step.{Step}
 use Rattle.elimination.specs.Elimination.{backward}
 use Rattle.lines.specs.Lines.{line_back}
 use Rattle.passes.specs.Sheet.{knot_at, line_at}
 use Rattle.passes.specs.Forward.{Run, going, stuck, run_to, state_at}
 use Rattle.passes.specs.Back.{Back, back, stopped, back_to}
-use Rattle.passes.specs.Passes.{returned, answered, back_from, passes}
+use Rattle.passes.specs.Passes.{passes, answered, returned, back_from, verdict_in}
 use Rattle.ends.specs.Ends.{ends}
 use Rattle.fit.specs.Fit as Fit
 use Rattle.fit.specs.Fit.{fit_of}
@@ -122,11 +122,11 @@ module _ (s : List ℕ) (half : HalfAUnitHeld s) where
 -- ---- fits
 
 -- 8 comes with its own number
-eight_never : (step : State → ℕ → Step) (turn : State → Pair → Pair) (n : ℕ) → (let x = passes step turn n in Never 10 (numbered x.number x.place))
+eight_never : (step : State → ℕ → Option State) (turn : State → Pair → Pair) (n : ℕ) → Never 10 (verdict_in (passes step turn n))
 unfolding passes back_from refuse
 eight_never step turn n = go (run_to step n) (back_to turn (state_at step) n n) _
   where
-    go : (r : Run) (b : Back) (pairs : List Pair) → (let x = answered r (returned b pairs) in Never 10 (numbered x.number x.place))
+    go : (r : Run) (b : Back) (pairs : List Pair) → Never 10 (verdict_in (answered r (returned b pairs)))
     go (stuck i) b pairs = other 8 i true tt
     go (going x) (stopped k) pairs = other 8 k true tt
     go (going x) (back v) pairs = given_never

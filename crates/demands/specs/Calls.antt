@@ -12,7 +12,7 @@ use Rattle.rows.specs.declared.End.TheVariants.{Free}
 use Rattle.ends.specs.Ends.{end_by}
 use Rattle.fit.specs.declared.Fitted.{Fitted}
 use Rattle.front.specs.Front.{listed}
-use Rattle.passes.specs.declared.Solved.{Solved}
+use Rattle.passes.specs.Passes.{Solved, pairs_in}
 use Rattle.numbers.specs.Numbers.{slope_at, curvature_at}
 use Rattle.fit.specs.Fit as Fit
 use Rattle.fit.specs.Fit.{fit_of, default_left, default_right}
@@ -173,12 +173,12 @@ solved_by (to_slopes given) xs ys = Slopes.solved xs ys given
 
 -- the slopes of its card: worked out, or as they were given
 abbrev pub slopes_by : Job → List ℕ → List ℤ → List ℤ
-slopes_by (between left right named) xs ys = listed (slope_at (Fit.solved xs ys left right).pairs) (length xs)
+slopes_by (between left right named) xs ys = listed (slope_at (pairs_in (Fit.solved xs ys left right))) (length xs)
 slopes_by (to_slopes given) xs ys = given
 
 -- and the curvatures, which are worked out
 abbrev pub curvatures_by : Job → List ℕ → List ℤ → List ℤ
-curvatures_by job xs ys = listed (curvature_at (solved_by job xs ys).pairs) (length xs)
+curvatures_by job xs ys = listed (curvature_at (pairs_in (solved_by job xs ys))) (length xs)
 
 -- the card that its elimination gives, accepted or not
 abbrev pub card_by : Job → List ℕ → List ℤ → Card

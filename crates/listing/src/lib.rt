@@ -105,7 +105,7 @@ pub fn refused_line(text: &mut [u8], at: usize, number: u32, place: u32) -> usiz
     decimal::put_byte(text, after_place, b'\n')
 }
 
-// The whole listing at the front of a buffer, and its length: the line of a knot has at most 60 bytes, the last line at most 33.
+// The whole listing at the front of a buffer, and its length, by the number and place that a struct has which C receives: the line of a knot has at most 60 bytes, the last line at most 33.
 pub fn list(
     number: u32,
     place: u32,

@@ -53,7 +53,7 @@ unfolding mend mend_order
 in_groups xs ys ms Ms room = regroup _ _ _ _
 
 -- a refusal has a number
-numbered : (r : Reason) → number_of r ≢ 0
+pub numbered : (r : Reason) → number_of r ≢ 0
 numbered Reason.FewKnots e = cc
 numbered Reason.ManyKnots e = cc
 numbered Reason.OddLengths e = cc

@@ -79,7 +79,7 @@ pub fn outside(xs: &[u16], minute: u16) -> Judged
 // ---- the gap of a minute, by halving: document 02, order 7
 
 // What is left to look through: so many gaps, from a first one on; and the looks so far.
-#[derive(Drop)]
+#[derive(Clone, Copy)]
 pub struct Left {
     pub first: usize,
     pub gaps: usize,
@@ -117,6 +117,7 @@ pub fn find(xs: &[u16], minute: u16) -> Left
         gaps: xs.len() - 1,
         looks: 0,
     };
+    // no index is counted: each look says how much is left
     while 1 < left.gaps {
         let middle = left.first + left.gaps / 2;
         left = look(left, minute, xs[middle]);

@@ -1,19 +1,25 @@
 -- For every public function, crate by crate: two outcomes that both meet its promise are the same, in the result and in each list that the function is lent to
 -- change. One law where the promise is an equation, and one where it is an equation of what an answer means. Assumes nothing.
-use mathlib.Core.Path.{◌≡◌, ap, ap₂}
+use mathlib.Core.Path.{◌≡◌, refl, sym, ap, ap₂}
+use native.Mathlib.Omega.{arith}
 use mathlib.Core.List.{List, []}
 use Prim.Native.Nat.{ℕ}
 use lib.IntN.{ℤ}
-use Rattle.answer.specs.Answer.{Answer, Verdict}
-use Rattle.answer.specs.Judge.{verdict_of}
-use Rattle.answer.specs.declared.Judged.{Judged}
+use Rattle.std.specs.Prelude.{Result, Ok, Err}
+use Rattle.answer.specs.Answer.{Answer, Verdict, refused, number, place}
+use Rattle.answer.specs.Judge.{Judged, number_of, verdict_of, AnswersAs}
+use Rattle.answer.specs.declared.Refusal.{Refusal}
 use Rattle.answer.proofs.Outcome.{one_outcome, one_judgement}
+use Rattle.answer.proofs.Reason.number.Reads as reason-number
+use Rattle.answer.proofs.Refusal.number.Reads as refusal-number
 use Rattle.answer.proofs.refuse.Reads as refuse
 use Rattle.answer.proofs.first.Reads as first
+use Rattle.answer.proofs.each.Reads as each
 use Rattle.whole.proofs.nearest_unsigned.Reads as nearest-unsigned
 use Rattle.whole.proofs.nearest.Reads as nearest
+use Rattle.log_mean.proofs.MeanFromRefusal.from.Reads as mean-refused
 use Rattle.log_mean.proofs.mean_of.Reads as mean_of
-use Rattle.curve.specs.Kind.{Kind}
+use Rattle.curve.specs.Kind.{Kind, quintic}
 use Rattle.curve.specs.Card.{Card}
 use Rattle.record.proofs.Records.{one_found}
 use Rattle.little_endian.proofs.read_u16.Reads as read-u16
@@ -25,6 +31,7 @@ use Rattle.little_endian.proofs.write_i32.Reads as write-i32
 use Rattle.record.proofs.is_at.Reads as is_at
 use Rattle.record.proofs.Cursor.new.Reads as cursor-new
 use Rattle.record.proofs.Cursor.read.Reads as cursor-read
+use Rattle.knots.specs.Lent.{lent, card_lent}
 use Rattle.knots.proofs.Kind.quintic.Reads as kind-quintic
 use Rattle.knots.proofs.Kind.sloped.Reads as kind-sloped
 use Rattle.knots.proofs.same_lengths.Reads as same_lengths
@@ -43,7 +50,8 @@ use Rattle.knots.proofs.beyond.Reads as beyond
 use Rattle.minutes.proofs.outside.Reads as outside
 use Rattle.minutes.proofs.find.Reads as find
 use Rattle.gaps.proofs.Knot.mirrored.Reads as mirrored
-use Rattle.weight_sheet.proofs.Found.of.Reads as sheet_of
+use Rattle.weight_sheet.proofs.Row.at.Reads as sheet_row
+use Rattle.weights.proofs.WeightsFromRow.from.Reads as weights-of-row
 use Rattle.weights.proofs.Weights.of.Reads as weights_of
 use Rattle.parts.proofs.Parts.of.Reads as parts-of
 use Rattle.parts.proofs.numerator.Reads as numerator
@@ -52,6 +60,7 @@ use Rattle.reading.proofs.Reading.between.Reads as reading-between
 use Rattle.gap_curve.proofs.GapCurve.of.Reads as curve_of
 use Rattle.gap_curve.proofs.GapCurve.at.Reads as curve_reads
 use Rattle.gap_curve.proofs.GapCurve.value_at.Reads as curve-value
+use Rattle.jumps.proofs.Order.number.Reads as order-number
 use Rattle.jumps.proofs.jump.Reads as jump
 use Rattle.jumps.proofs.allowance.Reads as allowance
 use Rattle.jumps.proofs.Spans.of.Reads as spans-of
@@ -60,45 +69,59 @@ use Rattle.jumps.proofs.meet.Reads as meet
 use Rattle.lists.proofs.knot_at.Reads as knot_at
 use Rattle.lists.proofs.code_at.Reads as code_at
 use Rattle.lists.proofs.asks.Reads as asks
-use Rattle.lists.proofs.spell_at.Reads as spell-at
 use Rattle.lists.proofs.numbers_sound.Reads as numbers_sound
 use Rattle.lists.proofs.sound.Reads as sound
-use Rattle.lists.proofs.CardReading.refused.Reads as reading-refused
-use Rattle.lists.proofs.curve_at.Reads as curve-at
-use Rattle.lists.proofs.read_at.Reads as read_at
+use Rattle.lists.proofs.CardReadingFromRefusal.from.Reads as reading-refused
+use Rattle.lists.proofs.Lists.knot.Reads as lists-knot
+use Rattle.lists.proofs.Lists.curve.Reads as lists-curve
+use Rattle.lists.proofs.Lists.spell.Reads as lists-spell
+use Rattle.lists.proofs.Lists.read_at.Reads as lists-read
 use Rattle.card_bytes.proofs.head_due.Reads as head_due
 use Rattle.card_bytes.proofs.records_due.Reads as records_due
 use Rattle.encode.proofs.put_card.Reads as put_card
 use Rattle.decode.proofs.Card.none.Reads as card-none
 use Rattle.decode.proofs.Card.of.Reads as card_of
+use Rattle.decode.proofs.Card.lent.Reads as card-lent
 use Rattle.decode.proofs.Card.give.Reads as card-give
 use Rattle.opened.proofs.Opening.{one_opened}
 use Rattle.opened.proofs.Opened.by_head.Reads as opened-by-head
+use Rattle.opened.proofs.lists.Reads as opened-lists
 use Rattle.card.specs.declared.Checked.{Checked}
 use Rattle.card.specs.Promise.{Lists, Reads}
+use Rattle.card.proofs.CheckedFromRefusal.from.Reads as checked-refused
 use Rattle.card.proofs.check.Reads as check
 use Rattle.card.proofs.into.Reads as into
 use Rattle.card.proofs.read.Reads as read
 use Rattle.card.proofs.reading.Reads as reading
 use Rattle.table.specs.declared.Tabled.{Tabled}
 use Rattle.table.specs.Promise.{Columns, Tables}
+use Rattle.table.proofs.TabledFromRefusal.from.Reads as tabled-refused
 use Rattle.table.proofs.table.Reads as table
+use Rattle.swing.proofs.SwungFromRefusal.from.Reads as swung-refused
 use Rattle.swing.proofs.gap.Reads as swing-gap
 use Rattle.swing.proofs.swing.Reads as swing
 use Rattle.explain.proofs.Explained.sum.Reads as explained-sum
+use Rattle.explain.proofs.ExplainedFromRefusal.from.Reads as explained-refused
 use Rattle.explain.proofs.explain.Reads as explain
 use Rattle.cubic.proofs.entry.Reads as cubic-entry
+use Rattle.unknowns.specs.Unknowns.{answer_of}
 use Rattle.unknowns.proofs.check.Reads as unknowns-check
 use Rattle.unknowns.proofs.value_at.Reads as unknowns-value-at
 use Rattle.unknowns.proofs.at.Reads as unknowns-at
 use Rattle.unknowns.proofs.unknown_at.Reads as unknown-at
+use Rattle.preheat.proofs.HeatedFromRefusal.from.Reads as preheat-refused
 use Rattle.preheat.proofs.value.Reads as preheat-value
 use Rattle.writer.specs.declared.Written.{Written}
 use Rattle.writer.specs.Promise.{Writes}
+use Rattle.writer.proofs.WrittenFromRefusal.from.Reads as written-refused
 use Rattle.writer.proofs.write.Reads as write
 use Rattle.writer.proofs.write_slopes.Reads as write-slopes
 use Rattle.elimination.proofs.no_pair.Reads as no_pair
 use Rattle.elimination.proofs.start.Reads as start
+use Rattle.rows.proofs.BlockMul.mul.Reads as block-times-block
+use Rattle.rows.proofs.BlockMulPair.mul.Reads as block-times-pair
+use Rattle.rows.proofs.BlockSub.sub.Reads as block-less-block
+use Rattle.rows.proofs.PairSub.sub.Reads as pair-less-pair
 use Rattle.rows.proofs.gap_of.Reads as row-gap
 use Rattle.rows.proofs.empty_gap.Reads as empty-gap
 use Rattle.rows.proofs.equations_of.Reads as equations-of
@@ -119,8 +142,12 @@ use Rattle.ends.proofs.given_ends.Reads as given-ends
 use Rattle.numbers.proofs.scale.Reads as scale
 use Rattle.numbers.proofs.write.Reads as write-numbers
 use Rattle.fit.specs.declared.Fitted.{Fitted}
-use Rattle.fit.specs.Promise.{Fits}
+use Rattle.fit.specs.Jobs.{handed}
+use Rattle.fit.specs.Promise.{fitted_of, Fits}
 use Rattle.fit.proofs.Outcome.{one_fit}
+use Rattle.fit.proofs.FittedFromJudged.from.Reads as fitted-judged
+use Rattle.fit.proofs.work_out.Reads as work_out
+use Rattle.fit.proofs.fit_into.Reads as fit_into
 use Rattle.fit.proofs.fit_between.Reads as fit_between
 use Rattle.fit.proofs.fit_codes.Reads as fit_codes
 use Rattle.fit.proofs.fit.Reads as fit
@@ -160,9 +187,10 @@ use Rattle.split.proofs.past.Reads as split-past
 use Rattle.split.proofs.line_at.Reads as line_at_lem
 use Rattle.numeral.proofs.starts.Reads as starts
 use Rattle.numeral.proofs.plain.Reads as plain
-use Rattle.numeral.proofs.Number.natural.Reads as natural
-use Rattle.numeral.proofs.Ordinate.of.Reads as ordinate-of
-use Rattle.numeral.proofs.Signed.of.Reads as Signed-of
+use Rattle.numeral.proofs.Wrong.number.Reads as wrong-number
+use Rattle.numeral.proofs.natural.Reads as natural
+use Rattle.numeral.proofs.signed.Reads as signed
+use Rattle.numeral.proofs.ordinate.Reads as ordinate
 use Rattle.text.proofs.bare_line.Reads as bare_line
 use Rattle.text.proofs.blamed.Reads as blamed
 use Rattle.text.proofs.log_name.Reads as log_name
@@ -175,7 +203,10 @@ use Rattle.words.proofs.value_line.Reads as value-said
 use Rattle.words.proofs.wrong_line.Reads as wrong-said
 use Rattle.words.proofs.mended_line.Reads as mended-said
 use Rattle.reply.specs.declared.Answered.{Answered}
-use Rattle.reply.specs.Reply.{Reply, Answers}
+use Rattle.reply.specs.declared.Status.{Status}
+use Rattle.reply.specs.declared.Status.TheVariants.{Done, Refused}
+use Rattle.reply.specs.Reply.{Reply, byte_of, Answers}
+use Rattle.reply.proofs.Status.byte.Reads as status-byte
 use Rattle.reply.proofs.line_of.Reads as reply-line
 use Rattle.reply.proofs.answer.Reads as reply-answer
 use Rattle.mend.specs.declared.Plan.{Plan}
@@ -192,6 +223,7 @@ use Rattle.mend.specs.declared.Change.{Change}
 use Rattle.mend.specs.declared.Plan.{Plan}
 use Rattle.mend.specs.declared.Mended.{Mended}
 use Rattle.mend.specs.Promise.{Plans, Mends}
+use Rattle.mend.proofs.Planning.{numbered}
 use Rattle.mend.proofs.Plan.unchanged.Reads as plan-unchanged
 use Rattle.mend.proofs.Plan.len.Reads as plan-len
 use Rattle.mend.proofs.Plan.answer.Reads as plan-answer
@@ -205,7 +237,8 @@ use Rattle.book.proofs.Standing.{one_step}
 use Rattle.book.proofs.Answers.{one_walked}
 use Rattle.book.proofs.step_at.Reads as book-step
 use Rattle.book.proofs.walk.Reads as book-walk
-use Rattle.book.proofs.Used.refused.Reads as used-refused
+use Rattle.book.proofs.UsedFromRefusal.from.Reads as used-refused
+use Rattle.book.proofs.SpotFromRefusal.from.Reads as spot-refused
 use Rattle.book.proofs.check.Reads as book-check
 use Rattle.book.proofs.own.Reads as book-own
 use Rattle.book.proofs.find.Reads as book_find
@@ -232,7 +265,7 @@ use Rattle.kaihveto.proofs.kaihveto_book_find.Reads as c-book-find
 use Rattle.kaihveto.proofs.kaihveto_book_put.Reads as c-book-put
 use Rattle.kaihveto.proofs.kaihveto_book_remove.Reads as c-book-remove
 use Rattle.kaihveto.proofs.kaihveto_mend.Reads as c-mend
-use Rattle.outcome.specs.Once.{Leaves, Once, Lent}
+use Rattle.outcome.specs.Once.{Means, Leaves, Once, Lent}
 
 -- ---- the laws: a promise is an equation of what is left to the caller, or one of what an answer means, or several equations
 
@@ -240,9 +273,28 @@ module _ {K A X S B : Type 0} (left : X → S → B) (f : K → A → B) where
   equation : Leaves (λ κs a x s. left x s ≡ f κs a) left
   equation κs a x y s t = one_outcome
 
+-- one of what the result means beside the arguments
+module _ {K A X S B : Type 0} (meaning : K → A → X → B) (f : K → A → B) where
+  meant : Means {S = S} (λ κs a x s. meaning κs a x ≡ f κs a) (λ κs a x s. meaning κs a x)
+  meant κs a x y s t = one_outcome
+
 module _ {K A S : Type 0} (f : K → A → Verdict) where
   judgement : Once (λ (κs : K) (a : A) (x : Judged) (s : S). verdict_of x ≡ f κs a)
   judgement κs a x y s t = one_judgement
+
+-- a given value, or a number and a place, belong to one result only
+one_result : {X : Type 0} (a b : Result X Refusal) → answer_of a ≡ answer_of b → a ≡ b
+one_result (Ok x) (Ok y) e = cc
+one_result (Ok x) (Err r) e = cc
+one_result (Err r) (Ok y) e = cc
+one_result {X} (Err r) (Err q) e =
+    let n : number_of r.reason ≡ number_of q.reason = cc in
+    let p : r.place ≡ q.place = cc in
+    ap as_result (one_judgement {a = Err r} {b = Err q} (ap₂ refused n p) refl)
+  where
+    as_result : Judged → Result X Refusal
+    as_result (Ok u) = Err r
+    as_result (Err f) = Err f
 
 -- a promise that says more leaves no more open
 module _ {K A X S B : Type 0} {Post : K → A → X → S → Type 0} (More : K → A → X → S → Type 0) (left : X → S → B) where
@@ -306,6 +358,24 @@ module _ {K A S : Type 0} (fit : K → A → Answer Card) (ms Ms : K → A → L
   fitting : Once Fitting × Lent Fitting ms' × Lent Fitting Ms'
   fitting = ((λ κs a x y s t p q. (one_fit p q).0), (λ κs a x y s t p q. (one_fit p q).1), λ κs a x y s t p q. (one_fit p q).2)
 
+-- number and place belong to one judgement only
+one_fitted : (a b : Judged) → fitted_of a ≡ fitted_of b → a ≡ b
+unfolding number place
+one_fitted (Ok u) (Ok v) e = refl
+one_fitted (Ok u) (Err q) e = absurd (numbered q.reason (sym (ap (λ f. f.number) e)))
+one_fitted (Err r) (Ok v) e = absurd (numbered r.reason (ap (λ f. f.number) e))
+one_fitted (Err r) (Err q) e =
+    let n : number_of r.reason ≡ number_of q.reason = ap (λ f. f.number) e in
+    let p : r.place ≡ q.place = ap (λ f. f.place) e in
+    one_judgement {a = Err r} {b = Err q} (ap₂ refused n p) refl
+
+module _ {K A S : Type 0} (fit : K → A → Answer Card) (ms Ms : K → A → List ℤ) (ms' Ms' : S → List ℤ) where
+  abbrev FittingJudged : K → A → Judged → S → Type 0
+  FittingJudged κs a x s = Fits (fit κs a) (ms κs a) (Ms κs a) (ms' s) (Ms' s) (fitted_of x)
+
+  fitting_judged : Once FittingJudged × Lent FittingJudged ms' × Lent FittingJudged Ms'
+  fitting_judged = ((λ κs a x y s t p q. one_fitted x y (one_fit p q).0), (λ κs a x y s t p q. (one_fit p q).1), λ κs a x y s t p q. (one_fit p q).2)
+
 -- the slopes are lent to be read
 module _ {K A S : Type 0} (fit : K → A → Answer Card) (ms Ms : K → A → List ℤ) (Ms' : S → List ℤ) where
   abbrev FittingCurvatures : K → A → Fitted → S → Type 0
@@ -361,13 +431,19 @@ module _ {K A S : Type 0} (words text : K → A → List ℕ) (text' : S → Lis
 three : {A B C D : Type 0} (f : A → B → C → D) {a a' : A} {b b' : B} {c c' : C} → a ≡ a' → b ≡ b' → c ≡ c' → f a b c ≡ f a' b' c'
 three f p q r = ap₂ (λ g c. g c) (ap₂ f p q) r
 
+one_status : (a b : Status) → byte_of a ≡ byte_of b → a ≡ b
+one_status Done Done e = refl
+one_status Done Refused e = absurd (omega arith)
+one_status Refused Done e = absurd (omega arith)
+one_status Refused Refused e = refl
+
 module _ {K A S : Type 0} (reply : K → A → Reply) (to : K → A → List ℕ) (to' card' : S → List ℕ) where
   abbrev Answering : K → A → Answered → S → Type 0
   Answering κs a x s = Answers (reply κs a) (to κs a) (to' s) (card' s) x
 
   answering : Once Answering × Lent Answering to' × Lent Answering card'
   answering = (
-    (λ κs a x y s t p q. three (λ n l c. record { status = n; length = l; card = c }) (one_outcome p.status q.status) (one_put p.said q.said).1 (one_outcome p.size q.size)),
+    (λ κs a x y s t p q. three (λ n l c. record { status = n; length = l; card = c }) (one_status x.status y.status (one_outcome p.status q.status)) (one_put p.said q.said).1 (one_outcome p.size q.size)),
     (λ κs a x y s t p q. (one_put p.said q.said).0),
     λ κs a x y s t p q. one_outcome p.card q.card,
   )
@@ -393,14 +469,20 @@ module _ {K A S : Type 0} (rooms : K → A → Answer (List Entry)) (entry : K �
 
 -- ---- answers, rounding, the mean
 
-pub answer : Once refuse.Post × Once first.Post
-answer = (judgement _, judgement _)
+pub answer : Once reason-number.Post × Once refusal-number.Post × Once refuse.Post × Once first.Post
+answer = (equation _ _, equation _ _, judgement _, judgement _)
+
+-- of a check that answers at each place as a step says, whatever its type
+pub answer_each :
+    (F : _) (laws : _) (check : _) (d e f g : _) (step : ℕ → Verdict)
+    → Once (λ κs a x s. AnswersAs (λ i. check.post a.1.0 (i, tt)) a.0 step × each.Post F laws check d e f g κs a x s)
+answer_each F laws check d e f g step κs a x y s t p q = one_judgement (p.1 step p.0) (q.1 step q.0)
 
 pub whole : Once nearest-unsigned.Post × Once nearest.Post
 whole = (equation _ _, equation _ _)
 
-pub log : Once mean_of.Post
-log = equation _ _
+pub log : Once mean-refused.Post × Once mean_of.Post
+log = (equation _ _, equation _ _)
 
 -- ---- bytes
 
@@ -422,39 +504,41 @@ minutes = (equation _ _, equation _ _, equation _ _, equation _ _, equation _ _,
 pub knots : Once kind-quintic.Post × Once kind-sloped.Post × Once same_lengths.Post × Once counted.Post × Once codes.Post × Once sized.Post × Once room.Post × Once stand.Post × Once in_range.Post × Once beyond.Post
 knots = (equation _ _, equation _ _, judgement _, judgement _, judgement _, judgement _, judgement _, judgement _, (λ κs a x y s t p q. one_judgement (p [] 0 0) (q [] 0 0)), equation _ _)
 
-pub one_gap : Once mirrored.Post × Once sheet_of.Post × Once weights_of.Post × Once parts-of.Post × Once numerator.Post × Once denominator.Post × Once reading-between.Post
-one_gap = (equation _ _, equation _ _, equation _ _, equation _ _, equation _ _, equation _ _, equation _ _)
+pub one_gap : Once mirrored.Post × Once sheet_row.Post × Once weights-of-row.Post × Once weights_of.Post × Once parts-of.Post × Once numerator.Post × Once denominator.Post × Once reading-between.Post
+one_gap = (equation _ _, equation _ _, equation _ _, equation _ _, equation _ _, equation _ _, equation _ _, equation _ _)
 
 pub gap_curve : Once curve_of.Post × Once curve_reads.Post × Once curve-value.Post
 gap_curve = (equation _ _, equation _ _, equation _ _)
 
-pub two_gaps : Once jump.Post × Once allowance.Post × Once spans-of.Post × Once spans_none.Post × Once meet.Post
-two_gaps = (equation _ _, equation _ _, equation _ _, equation _ _, equation _ _)
+pub two_gaps : Once order-number.Post × Once jump.Post × Once allowance.Post × Once spans-of.Post × Once spans_none.Post × Once meet.Post
+two_gaps = (equation _ _, equation _ _, equation _ _, equation _ _, equation _ _, equation _ _)
 
-pub lists : Once numbers_sound.Post × Once sound.Post × Once reading-refused.Post × Once curve-at.Post × Once read_at.Post
+pub lists : Once numbers_sound.Post × Once sound.Post × Once reading-refused.Post × Once lists-curve.Post × Once lists-read.Post
 lists = (judgement _, judgement _, equation _ _, equation _ _, λ κs a x y s t p q. one_outcome (p 0 0) (q 0 0))
 
-pub knots_of_lists : Once knot_at.Post × Once code_at.Post × Once asks.Post × Once spell-at.Post
-knots_of_lists = (equation _ _, equation _ _, equation _ _, equation _ _)
+pub knots_of_lists : Once knot_at.Post × Once code_at.Post × Once asks.Post × Once lists-knot.Post × Once lists-spell.Post
+knots_of_lists = (equation _ _, equation _ _, equation _ _, equation _ _, equation _ _)
 
 -- ---- cards
 
 pub card_bytes : Once head_due.Post × Once records_due.Post
 card_bytes = (judgement _, judgement _)
 
--- the buffer is the eighth parameter
-pub encode : Lent put_card.Post (λ s. s.1.1.1.1.1.1.1.0.now)
+-- the buffer is the third parameter
+pub encode : Lent put_card.Post (λ s. s.1.1.0.now)
 encode = equation _ _
 
-pub decode : Once card-none.Post × Once card_of.Post
-decode = (equation _ _, equation _ _)
+-- the lists that a card lends are told by what they hold
+pub decode : Once card-none.Post × Once card_of.Post × Leaves card-lent.Post (λ x s. card_lent x)
+decode = (equation _ _, equation _ _, equation _ _)
 
 -- the four lists follow the card
 pub decode_given : Four (λ s. s.1.0.now) (λ s. s.1.1.0.now) (λ s. s.1.1.1.0.now) (λ s. s.1.1.1.1.0.now) card-give.Post
 decode_given = given _ _ _ _ _ _ _ _
 
-pub opened : Once opened-by-head.Post
-opened κs a x y s t = one_opened
+-- the lists have no codes, and are told beside the card's
+pub opened : Once opened-by-head.Post × Means opened-lists.Post (λ κs a x s. lent x.minutes.now x.ordinates.now x.slopes.now x.curvatures.now a.0.now.left a.0.now.right)
+opened = ((λ κs a x y s t. one_opened), meant _ _)
 
 pub card : Once check.Post × Once into.Post × Once reading.Post
 card = (equation _ _, judgement _, equation _ _)
@@ -473,7 +557,21 @@ pub card_explained : Once explain.Post × Once explained-sum.Post
 card_explained = (with_more _ _ (equation _ _), equation _ _)
 
 pub cubic : Once cubic-entry.Post × Once unknowns-check.Post × Once unknowns-value-at.Post × Once unknowns-at.Post × Once unknown-at.Post × Once preheat-value.Post
-cubic = (equation _ _, judgement _, equation _ _, equation _ _, equation _ _, equation _ _)
+cubic = (equation _ _, judgement _, equation _ _, equation _ _, (λ κs a x y s t p q. one_result x y (one_outcome p q)), equation _ _)
+
+-- a refusal stands in each answer beside zeros, whatever the card, its kind or the count
+pub refused_answers : Once checked-refused.Post × Once tabled-refused.Post × Once swung-refused.Post × Once explained-refused.Post × Once written-refused.Post × Once preheat-refused.Post
+refused_answers = (
+  (λ κs a x y s t p q. one_outcome (p quintic no_card) (q quintic no_card)),
+  (λ κs a x y s t p q. one_outcome (p 0) (q 0)),
+  (λ κs a x y s t p q. one_outcome (p no_card) (q no_card)),
+  equation _ _,
+  (λ κs a x y s t p q. one_outcome (p 0) (q 0)),
+  equation _ _,
+)
+  where
+    no_card : Card
+    no_card = lent [] [] [] [] 0 0
 
 -- the buffer is the seventh
 pub card_written : Once write.Post × Lent write.Post (λ s. s.1.1.1.1.1.1.0.now)
@@ -490,8 +588,8 @@ pub moved : Lent slide.Post (λ s. s.0.now) × Lent copy-in.Post (λ s. s.1.0.no
 moved = (equation _ _, equation _ _)
 
 -- the part that is handed back is told by its bytes
-pub book : Once book-step.Post × Once book-walk.Post × Once used-refused.Post × Once book-check.Post × Once book-own.Post × Once book_find.Post × Leaves book-lookup.Post (λ x s. x.now)
-book = ((λ κs a x y s t p q. one_step a.1.0 x y (one_outcome p q)), (λ κs a x y s t p q. one_walked x y (one_outcome p q)), equation _ _, equation _ _, judgement _, equation _ _, equation _ _)
+pub book : Once book-step.Post × Once book-walk.Post × Once used-refused.Post × Once spot-refused.Post × Once book-check.Post × Once book-own.Post × Once book_find.Post × Leaves book-lookup.Post (λ x s. x.now)
+book = ((λ κs a x y s t p q. one_step a.1.0 x y (one_outcome p q)), (λ κs a x y s t p q. one_walked x y (one_outcome p q)), equation _ _, equation _ _, equation _ _, judgement _, equation _ _, equation _ _)
 
 -- the buffer is the first parameter
 pub put_in_a_book : Once book-put.Post × Lent book-put.Post (λ s. s.0.now)
@@ -505,6 +603,9 @@ taken_out_of_a_book = putting_in _ _ _
 pub rows : Once row-gap.Post × Once empty-gap.Post × Once equations-of.Post
 rows = (equation _ _, equation _ _, equation _ _)
 
+pub matrices : Once block-times-block.Post × Once block-times-pair.Post × Once block-less-block.Post × Once pair-less-pair.Post
+matrices = (equation _ _, equation _ _, equation _ _, equation _ _)
+
 pub elimination : Once no_pair.Post × Once start.Post × Once row_back.Post × Once finite.Post × Once finite-pair.Post × Once eliminate.Post × Once judge.Post
 elimination = (equation _ _, equation _ _, equation _ _, equation _ _, equation _ _, equation _ _, equation _ _)
 
@@ -517,7 +618,14 @@ passes = (equation _ _, equation _ _, equation _ _, equation _ _)
 pub ends : Once code.Post × Once end_by.Post × Once given-ends.Post
 ends = (equation _ _, equation _ _, judgement _)
 
+-- the numbers are told by the card that they make of the knots
+pub fit_worked_out : Once fitted-judged.Post × Means work_out.Post (λ κs a x s. handed a.0.now a.1.0.now a.1.1.0.now a.1.1.1.0 x)
+fit_worked_out = (equation _ _, meant _ _)
+
 -- slopes and curvatures are the third and the fourth parameter
+pub fit_behind_codes : Once fit_into.Post × Lent fit_into.Post (λ s. s.1.1.0.now) × Lent fit_into.Post (λ s. s.1.1.1.0.now)
+fit_behind_codes = fitting_judged _ _ _ _ _
+
 pub fit_by_kinds : Once fit_between.Post × Lent fit_between.Post (λ s. s.1.1.0.now) × Lent fit_between.Post (λ s. s.1.1.1.0.now)
 fit_by_kinds = fitting _ _ _ _ _
 
@@ -603,8 +711,8 @@ listed = putting _ _ _ _
 pub split : Once split-stop.Post × Leaves split-until.Post (λ x s. x.now) × Leaves Split-from.Post (λ x s. x.now) × Leaves split-past.Post (λ x s. x.now) × Leaves line_at_lem.Post (λ x s. x.now)
 split = (equation _ _, equation _ _, equation _ _, equation _ _, equation _ _)
 
-pub numeral : Once starts.Post × Once plain.Post × Once natural.Post × Once ordinate-of.Post × Once Signed-of.Post
-numeral = (equation _ _, equation _ _, equation _ _, equation _ _, equation _ _)
+pub numeral : Once wrong-number.Post × Once starts.Post × Once plain.Post × Once natural.Post × Once ordinate.Post × Once signed.Post
+numeral = (equation _ _, equation _ _, equation _ _, equation _ _, equation _ _, equation _ _)
 
 pub text : Leaves bare_line.Post (λ x s. x.now) × Leaves blamed.Post (λ x s. x.now) × Leaves log_name.Post (λ x s. x.now) × Once text-read.Post
 text = (equation _ _, equation _ _, equation _ _, equation _ _)
@@ -628,8 +736,8 @@ wrong_told = putting _ _ _ _
 pub mended_told : Once mended-said.Post × Lent mended-said.Post (λ s. s.0.now)
 mended_told = putting _ _ _ _
 
-pub line_told : Once reply-line.Post
-line_told = equation _ _
+pub line_told : Once reply-line.Post × Once status-byte.Post
+line_told = (equation _ _, equation _ _)
 
 -- the buffers for what is said and for the card are the sixth and the seventh
 pub reply : Once reply-answer.Post × Lent reply-answer.Post (λ s. s.1.1.1.1.1.0.now) × Lent reply-answer.Post (λ s. s.1.1.1.1.1.1.0.now)
@@ -642,7 +750,7 @@ reply_mended = mending_text _ _ _ _ _ _
 -- the text is the second
 pub card_listed : Once list-card.Post × Lent list-card.Post (λ s. s.1.0.now)
 card_listed = (
-  (λ κs a x y s t p q. three (λ n k l. record { number = n; place = k; length = l }) (one_outcome p.1.0 q.1.0) (one_outcome p.1.1 q.1.1) (one_put p.0 q.0).1),
+  (λ κs a x y s t p q. ap₂ (λ v l. record { verdict = v; length = l }) (one_judgement p.1 q.1) (one_put p.0 q.0).1),
   λ κs a x y s t p q. (one_put p.0 q.0).0,
 )
 

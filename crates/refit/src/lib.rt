@@ -6,6 +6,9 @@
 
 ghost use Rattle.std.specs.Prelude.{◌≡◌, ◌<◌, ◌≤◌, length};
 ghost use Rattle.std.proofs.Math.IntN.{ℤ_discrete};
+ghost use Rattle.answer.specs.Answer.{refused};
+ghost use Rattle.answer.specs.Judge.{number_of};
+ghost use Rattle.curve.specs.Card.{Card};
 ghost use Rattle.knots.specs.Kinds.{kind_of};
 ghost use Rattle.knots.specs.Lent.{card_lent};
 ghost use Rattle.lists.specs.Lists.{Long};
@@ -14,13 +17,14 @@ ghost use Rattle.fit.specs.Promise.{Fits};
 ghost use Rattle.slope_fit.specs.SlopesFit.{slopes_fit};
 ghost use Rattle.refit.specs.Differing.{differing};
 ghost use Rattle.refit.specs.Fresh.{fresh_between, fresh};
-ghost use Rattle.refit.specs.Promise.{changed, Refits, Renews};
+ghost use Rattle.refit.specs.Promise.{changed, refitted, Refits, Renews};
 
+use answer::Refusal;
 use knots::{Kind, Lent};
 use lines::hundredths;
 use opened::Opened;
 
-// Zeros behind a refusal.
+// Zeros behind a refusal. C receives it so.
 #[repr(C)]
 #[derive(Drop)]
 pub struct Refitted {
@@ -28,6 +32,20 @@ pub struct Refitted {
     pub place: u32,
     pub knots: u32,
     pub changed: u32,
+}
+
+#[tactic(auto, unfolding(crate::specs::Promise::refitted))]
+impl From<Refusal> for Refitted {
+    ghost from_gives = { λ refusal r. (c : Card) → r ≡ refitted c (refused (number_of refusal.reason) refusal.place) };
+
+    fn from(refusal: Refusal) -> Refitted {
+        Refitted {
+            number: refusal.number(),
+            place: refusal.place,
+            knots: 0,
+            changed: 0,
+        }
+    }
 }
 
 // At how many places two lists differ.
@@ -137,12 +155,7 @@ pub fn refit(card: &[u8], slopes: &mut [i32], curvatures: &mut [i32]) -> Refitte
     let n = opened.card.knots;
     let lent = slopes.len();
     match card::into(&opened, lent, lent, lent, curvatures.len()) {
-        Err(refusal) => Refitted {
-            number: refusal.number(),
-            place: refusal.place,
-            knots: 0,
-            changed: 0,
-        },
+        Err(refusal) => Refitted::from(refusal),
         Ok(()) => {
             let held = opened.card.lent();
             anew(opened.kind, held, &mut slopes[..n], &mut curvatures[..n])

@@ -4,7 +4,7 @@ use Prim.Native.Nat.{ℕ}
 use Prim.Native.String.{String}
 use mathlib.Core.Path.{◌≡◌, refl}
 use mathlib.Core.List.{List, [], ◌∷◌, ◌++◌}
-use lib.IntN.{pos, nat_abs}
+use lib.IntN.{pos}
 use lib.ListN.{take, replicate}
 use lib.Ieee.{add, sub, mul, div, neg, of_bits, of_int, ne}
 use Rattle.whole.specs.Whole.{minus, beyond, nearest}
@@ -15,7 +15,7 @@ use Rattle.answer.specs.Lent.{lent_after}
 use Rattle.curve.specs.Formula.{power, worth, ∂, ∂^, amount}
 use Rattle.curve.specs.Curve.{degree, rightward, leftward, allowance}
 use Rattle.curve.specs.Kind.{quintic_asks, quintic, sloped_asks, sloped_allowance, sloped}
-use Rattle.curve.specs.Card.{Card, knots, knot, back, on, gap, spot, joint}
+use Rattle.curve.specs.Card.{knots, knot, back, on, gap, spot, joint}
 use Rattle.curve.specs.Jump.{inverse, clear, over, rise, jump, allowed, jumps}
 use Rattle.curve.specs.Steps.{slope_beyond, curvature_beyond, lengths, counted, codes, stands, in_range, slope_in_range, smooth, room}
 use Rattle.curve.specs.Orders.{numbers_sound, sound, verdict, fit_order, write_order}

@@ -20,13 +20,14 @@ use writer::Written;
 pub const SLOT: usize = 62;
 
 // Any list is answered: a log ends where the list does.
+#[tactic(auto, using(crate::proofs::Slots::no_slot, crate::proofs::Slots::in_slot, crate::proofs::Slots::short_slot))]
 fn log_at(logs: &[u8], i: usize) -> &[u8]
     requires { i < most }
     ensures { result.now ≡ log_at logs.now i }
 {
     let at = SLOT * i;
     if logs.len() <= at {
-        return split::from(logs, logs.len());
+        return b"";
     }
     let bytes = split::from(logs, at + 1);
     let n = logs[at] as usize;
@@ -81,6 +82,7 @@ pub fn line_of(lines: [u32; Sheet::MOST], knot: u32) -> u32
 }
 
 // The line of the knot that is refused; 0 where no knot is.
+#[tactic(auto, unfolding(crate::specs::Reply::blamed))]
 fn blamed(lines: [u32; Sheet::MOST], number: u32, knot: u32) -> u32
     ensures { result ≡ blamed lines number knot }
 {
@@ -117,6 +119,7 @@ pub struct Answered {
 }
 
 // Knots that are refused; the card stays as it is.
+#[tactic(auto, unfolding(crate::specs::Reply::refusing))]
 fn refuse_knots(number: u32, place: u32, lines: [u32; Sheet::MOST], to: &mut [u8]) -> Answered
     requires { 4096 ≤ length to.old }
     ensures { Answers (refusing_knots number place lines []) to.old to.new [] result }
@@ -188,6 +191,7 @@ fn told(
 }
 
 // The card has the codes of the ends between which it was fitted.
+#[tactic(auto, using(crate::proofs::Replies::answers_as, crate::proofs::Replies::replies_fitted))]
 fn fit_lists(
     minutes: &[u16],
     ordinates: &[i16],
@@ -221,6 +225,7 @@ fn fit_lists(
 }
 
 // The slopes are given, one for each knot, and only the curvatures fitted.
+#[tactic(auto, using(crate::proofs::Replies::answers_as, crate::proofs::Replies::replies_sloped))]
 fn slope_lists(
     minutes: &[u16],
     ordinates: &[i16],
@@ -281,6 +286,7 @@ fn sheet_lists(
 }
 
 // What is wrong in the text of a sheet, with the word that is to blame; the card stays as it is.
+#[tactic(auto, unfolding(crate::specs::Reply::refusing))]
 fn complain(text: &[u8], blame: Blame, to: &mut [u8]) -> Answered
     requires { 4096 ≤ length to.old }
     ensures { Answers (complaint text.now blame []) to.old to.new [] result }
@@ -354,6 +360,7 @@ impl Mending {
     const ROOM: usize = holes::MOST;
 }
 
+#[tactic(auto, using(crate::proofs::Replies::answers_as, crate::proofs::Replies::replies_mended))]
 fn mend_lists(
     minutes: &[u16],
     ordinates: &mut [i16],

@@ -151,7 +151,8 @@ pub fn put_sentence(to: &mut [u8], at: usize, table: Table, n: u32) -> usize
     }
 }
 
-// The line of a sheet, where one is to blame.
+// The line of a sheet, where one is to blame. Lines count from 1 and stand in an array whose other places are 0:
+// so 0 is none, and an Option would be no plainer.
 #[tactic(auto, unfolding(crate::specs::Said::at_line, decimal::specs::Decimal::spelled), using(decimal::proofs::Puts::room_before, decimal::proofs::Puts::room_behind))]
 fn put_line(to: &mut [u8], at: usize, line: u32) -> usize
     requires { at + length (at_line line) ≤ length to.old }

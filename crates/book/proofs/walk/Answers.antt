@@ -11,7 +11,7 @@ use Rattle.book.proofs.walk.Goals.{In-Room}
 
 -- the record at which the walk stands is a room's
 here : (c : In-Room) → Told c.args.book.now c.loop-here.slot.bytes c.in-Room.here c.in-Room.next
-here c = told_room _ _ c.in-Room.ensures refl
+here c = told_room _ _ c.in-Room.ensures
 
 pub loop-here-init : goal.loop-here-init
 loop-here-init c =
@@ -20,17 +20,17 @@ loop-here-init c =
     rw e (going_starts _ _)
 
 pub returns-in-Wrong : goal.returns-in-Wrong
-returns-in-Wrong c = let w = told_wrong _ _ c.in-Wrong.ensures refl in going_wrong _ _ c.loop-here.invariant w.0 w.1
+returns-in-Wrong c = let w = told_wrong _ _ c.in-Wrong.ensures in going_wrong _ _ c.loop-here.invariant w.0 w.1
 
 pub returns-in-Close : goal.returns-in-Close
 unfolding closed ◌then◌
-returns-in-Close c = rw c.in_ok-rising-in-Close.was at (going_closed _ _ c.loop-here.invariant (told_close _ _ c.in-Close.ensures refl))
+returns-in-Close c = rw c.in_ok-rising-in-Close.was at (going_closed _ _ c.loop-here.invariant (told_close _ _ c.in-Close.ensures))
 
 pub returns-in_err-rising-in-Close : goal.returns-in_err-rising-in-Close
 unfolding closed ◌then◌
 returns-in_err-rising-in-Close c =
     exits_walked _ _ c.from_residual.ensures.1
-    ∙ rw c.in_err-rising-in-Close.was at (going_closed _ _ c.loop-here.invariant (told_close _ _ c.in-Close.ensures refl))
+    ∙ rw c.in_err-rising-in-Close.was at (going_closed _ _ c.loop-here.invariant (told_close _ _ c.in-Close.ensures))
 
 pub past-slot-requires : goal.past-slot-requires
 past-slot-requires c = let t = here (goal.at.past-slot-requires c).In-Room in omega (arith, t.end)

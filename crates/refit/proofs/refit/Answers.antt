@@ -18,6 +18,7 @@ use Rattle.opened.proofs.Fronts.{knots_held}
 use Rattle.opened.proofs.Opening.{opened_kind, accepted_holds}
 use Rattle.card.specs.Answers.{own}
 use Rattle.card.proofs.Lists.{opened_order, Taken, order_takes}
+use Rattle.refit.specs.Promise.{refitted}
 use Rattle.refit.proofs.Renewal.{refits_refused, refits_given}
 use borrow.Author.Rules.{rules}
 use Rattle.refit.proofs.refit.Goals as goal
@@ -85,7 +86,8 @@ anew-requires c =
     }
 
 pub returns-in-Err : goal.returns-in-Err
-returns-in-Err c = rw c.number.ensures (refits_refused _ _ _ (step_refused (verdict_is (goal.at.returns-in-Err c).After-into) c.in-Err.is))
+unfolding refitted
+returns-in-Err c = rw (c.from.ensures (card_of c.args.card.now)) (refits_refused _ _ _ (step_refused (verdict_is (goal.at.returns-in-Err c).After-into) c.in-Err.is))
 
 pub returns-in-Ok : goal.returns-in-Ok
 returns-in-Ok c =

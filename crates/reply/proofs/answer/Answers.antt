@@ -1,12 +1,9 @@
 -- `reply::answer` meets its contract, by what the reading of the text and the gathering of its knots answer. Assumes nothing.
-use Prim.Native.Nat.{◌≤◌}
 use mathlib.Core.Path.{◌≡◌, sym, ◌∙◌}
 use mathlib.Core.Bool.{false}
-use lib.ListN.{length}
 use native.Mathlib.Omega.{arith}
-use borrow.Author.Rules.{rules}
 use Rattle.std.specs.Prelude.{Ok}
-use Rattle.text.specs.Sheet.{most, sheet}
+use Rattle.text.specs.Sheet.{sheet}
 use Rattle.text.proofs.Room.{Roomy as SheetRoomy, roomy as sheet-roomy}
 use Rattle.reply.specs.Reply.{sheet_reply}
 use Rattle.reply.proofs.Gathers.{Roomy, roomy}

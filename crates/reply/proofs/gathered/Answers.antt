@@ -1,13 +1,12 @@
 -- `reply::gathered` meets its contract: a loop over the knots. Assumes nothing.
-use Prim.Native.Nat.{◌-◌, ◌≤◌, ◌<◌}
+use Prim.Native.Nat.{◌<◌}
 use mathlib.Core.Path.{◌≡◌, ◌∙◌}
 use native.Mathlib.Omega.{arith}
 use mir.Syntax.{w16}
-use borrow.Author.Rules.{rules}
 use Rattle.little_endian.proofs.Signs.{passed}
 use Rattle.text.specs.Sheet.{most}
 use Rattle.reply.specs.Knots.{knot_at}
-use Rattle.reply.proofs.Gathers.{Going, going_starts, going_on, going_ends}
+use Rattle.reply.proofs.Gathers.{going_starts, going_on, going_ends}
 use Rattle.reply.proofs.gathered.Goals as goal
 use Rattle.reply.proofs.gathered.Goals.{After-knot_at-knot, After-loop-i, In-loop-i}
 

@@ -1,11 +1,9 @@
 -- `reply::mend` meets its contract, by what the reading of the text and the gathering of its knots answer. Assumes nothing.
-use Prim.Native.Nat.{◌≤◌}
-use mathlib.Core.Path.{◌≡◌, refl, sym, ◌∙◌}
+use mathlib.Core.Path.{◌≡◌, sym, ◌∙◌}
 use mathlib.Core.Bool.{true}
 use native.Mathlib.Omega.{arith}
-use borrow.Author.Rules.{rules}
 use Rattle.std.specs.Prelude.{Ok}
-use Rattle.text.specs.Sheet.{most, sheet}
+use Rattle.text.specs.Sheet.{sheet}
 use Rattle.text.proofs.Room.{Roomy as SheetRoomy, roomy as sheet-roomy}
 use Rattle.reply.specs.Mending.{mend_reply, lines_of}
 use Rattle.reply.proofs.Gathers.{Roomy, roomy}

@@ -1,7 +1,6 @@
 -- `reply::told` meets its contract, by the number. Assumes nothing.
 use mathlib.Core.Path.{◌≡◌, refl, ap}
 use native.Mathlib.Omega.{arith}
-use borrow.Author.Rules.{rules}
 use Rattle.reply.specs.Reply.{listing_of}
 use Rattle.reply.proofs.Replies.{answers_as, refuses, replies_refused, replies_done}
 use Rattle.reply.proofs.told.Goals as goal

@@ -1,9 +1,0 @@
--- `reply::complain` meets its contract. Assumes nothing.
-use mathlib.Core.Path.{refl}
-use borrow.Author.Rules.{rules}
-use Rattle.reply.specs.Reply.{refusing}
-use Rattle.reply.proofs.complain.Goals as goal
-
-pub returns : goal.returns
-unfolding refusing
-returns c = record { said = rw c.blamed-word.ensures at c.wrong_line-length.ensures; status = refl; card = refl; size = refl }
