@@ -1,7 +1,7 @@
 // Warnings of swings: the gaps of a card in which its curve goes further beyond the gap's two knots than a
 // bound. How far it goes is what `swing` promises. A report on a card says them on standard output; where a
 // card is made or put in they stand beside that, on standard error.
-ghost use Rattle.std.specs.Prelude.{◌+◌, ◌<◌};
+ghost use Rattle.std.specs.Prelude.{◌<◌};
 ghost use Rattle.opened.specs.Readable.{Readable};
 
 use crate::places::at;

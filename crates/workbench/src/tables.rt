@@ -1,5 +1,5 @@
 // The readings of a card at all of its minutes, and their lines.
-ghost use Rattle.std.specs.Prelude.{◌<◌, ◌≤◌};
+ghost use Rattle.std.specs.Prelude.{◌<◌};
 
 use crate::places::{at, front};
 use crate::tell::{Done, Undone};

@@ -150,6 +150,11 @@ fn table(types: &Types, name: &str, value: &Expr, t: &Ty) -> String {
             head + &in_lines(parts.iter().map(number).collect()) + ";\n\n"
         }
         Expr::Lent(constant, _) => match (constant, t) {
+            (Constant::Parts(parts), Ty::Array(of, _))
+                if parts.is_empty() && matches!(**of, Ty::Named(_) | Ty::Array(..) | Ty::Slice(..)) =>
+            {
+                head + "{{{0}}};\n\n"
+            }
             (Constant::Parts(parts), Ty::Array(of, _)) => {
                 head + &in_lines(parts.iter().map(|part| initial(types, part, of, name, t)).collect()) + ";\n\n"
             }

@@ -27,6 +27,7 @@ pub enum Op2 {
     FloatMul,
     FloatDiv,
     FloatNe,
+    FloatEq,
     FloatLt,
 }
 
@@ -64,12 +65,17 @@ impl Op2 {
             ("ne", []) => Op2::Ne,
             ("lt", [s]) => Op2::Lt(signed(s)),
             ("le", [s]) => Op2::Le(signed(s)),
+            // an integer is its bits, and C keeps as many as there are
+            ("wrapAdd", []) => Op2::Add,
+            ("wrapSub", []) => Op2::Sub,
+            ("wrapMul", []) => Op2::Mul,
             ("offset", []) => Op2::Offset,
             ("floatAdd", []) => Op2::FloatAdd,
             ("floatSub", []) => Op2::FloatSub,
             ("floatMul", []) => Op2::FloatMul,
             ("floatDiv", []) => Op2::FloatDiv,
             ("floatNe", []) => Op2::FloatNe,
+            ("floatEq", []) => Op2::FloatEq,
             ("floatLt", []) => Op2::FloatLt,
             _ => o.unknown("an operation"),
         }
@@ -84,7 +90,7 @@ impl Op2 {
     pub fn ty(self, operands: &Ty) -> Ty {
         use Op2::*;
         match (self, operands) {
-            (Eq | Ne | Lt(_) | Le(_) | FloatNe | FloatLt, _) => Ty::Bool,
+            (Eq | Ne | Lt(_) | Le(_) | FloatEq | FloatNe | FloatLt, _) => Ty::Bool,
             (Offset, _) => Ty::Ptr,
             _ => operands.clone(),
         }
@@ -113,7 +119,7 @@ impl Op2 {
             (Or, Ty::Int(_)) => cut(format!("{a} | {b}")),
             (And, Ty::Bool) => format!("{a} && {b}"),
             (Or, Ty::Bool) => format!("{a} || {b}"),
-            (Eq, Ty::Int(_)) => format!("{a} == {b}"),
+            (Eq, Ty::Int(_)) | (FloatEq, Ty::Float) => format!("{a} == {b}"),
             (Ne, Ty::Int(_)) | (FloatNe, Ty::Float) => format!("{a} != {b}"),
             (Lt(sign), Ty::Int(w)) => both("<", sign, *w),
             (Le(sign), Ty::Int(w)) => both("<=", sign, *w),
