@@ -110,6 +110,16 @@ fn cases() -> Vec<Case> {
     };
     let less = |local: usize, a: &str, b: &str| set(local, &op2("(lt unsigned)", a, b));
     let plus = |n: u32| set(0, &op2("(add unsigned)", &copy(0), &format!("(int 32 {n})")));
+    // whether a test holds of x / x and itself
+    let quotient = ["(tyFloat 64)", "(tyFloat 64)", "tyBool"];
+    let by_itself = |test: &str| {
+        vec![
+            set(3, &format!("(op1 (intToFloat unsigned 64) {x})")),
+            set(4, &op2("floatDiv", &copy(3), &copy(3))),
+            set(5, &op2(test, &copy(4), &copy(4))),
+            format!("(if {} {} {})", copy(5), set(0, &of("(int 32 1)")), set(0, &of("(int 32 0)"))),
+        ]
+    };
     let truths = |op: &str| {
         let is = |local: usize, a: &str| set(local, &op2("eq", a, "(int 32 1)"));
         vec![
@@ -241,6 +251,10 @@ fn cases() -> Vec<Case> {
             (7, 7),
             1,
         ),
+        // below 0 and above the top it goes round
+        case("wrapped_sum", &[], vec![set(0, &op2("wrapAdd", &x, &y))], (u32::MAX, 5), 4),
+        case("wrapped_difference", &[], vec![set(0, &op2("wrapSub", &x, &y))], (3, 5), u32::MAX - 1),
+        case("wrapped_product", &[], vec![set(0, &op2("wrapMul", &x, &y))], (u32::MAX, 3), u32::MAX - 2),
         // bit by bit, of numbers and of truths
         case("bits_of_both", &[], vec![set(0, &op2("and", &x, &y))], (12, 10), 8),
         case("bits_of_either", &[], vec![set(0, &op2("or", &x, &y))], (12, 10), 14),
@@ -248,19 +262,10 @@ fn cases() -> Vec<Case> {
         case("either_truth", &["tyBool", "tyBool", "tyBool"], truths("or"), (0, 1), 1),
         case("trailing_zeros", &[], vec![set(0, &format!("(op1 trailingZeros {x})"))], (24, 0), 3),
         case("trailing_zeros_of_none", &[], vec![set(0, &format!("(op1 trailingZeros {x})"))], (0, 0), 32),
-        // 0 / 0 differs from itself
-        case(
-            "not_a_number",
-            &["(tyFloat 64)", "(tyFloat 64)", "tyBool"],
-            vec![
-                set(3, &format!("(op1 (intToFloat unsigned 64) {x})")),
-                set(4, &op2("floatDiv", &copy(3), &copy(3))),
-                set(5, &op2("floatNe", &copy(4), &copy(4))),
-                format!("(if {} {} {})", copy(5), set(0, &of("(int 32 1)")), set(0, &of("(int 32 0)"))),
-            ],
-            (0, 0),
-            1,
-        ),
+        // 0 / 0 differs from itself, and is not equal to it; 7 / 7 is
+        case("not_a_number", &quotient, by_itself("floatNe"), (0, 0), 1),
+        case("not_equal_to_itself", &quotient, by_itself("floatEq"), (0, 0), 0),
+        case("equal_to_itself", &quotient, by_itself("floatEq"), (7, 7), 1),
         // where no key is the number, the arm without keys; the last arm where there is none
         case(
             "switch_with_a_default",
