@@ -1,6 +1,6 @@
 /* lister in portable C11. This file is written by portable/write and not by hand: it is the MIR of the crate lister
    as C, and that MIR is what the prover has proved. SHA-256 of the MIR:
-   876b101c02af264e4315e590455fabfb50314602f9cf5504d6eb0b4efb9ac5c1
+   ef8a2ade8f520ea914a0c9aaf9e5200c9dad4c9ade6744419347d653d2543cec
    Not proved: this translation and the C compiler; docs/TRUST.md says what was compared, and where.
 
    Names are the sources'. An integer is its bits, so it is unsigned, and s64(x) is the signed number of x's bits. A list
@@ -37,53 +37,161 @@
 _Static_assert(FLT_RADIX == 2 && DBL_MANT_DIG == 53 && DBL_MAX_EXP == 1024 && DBL_MIN_EXP == -1021, "double is binary64");
 _Static_assert(CHAR_BIT == 8 && sizeof(bool) == 1 && sizeof(int) >= 4 && sizeof(size_t) >= 4, "the sizes of integers");
 
-enum { answer_Judged_Accepted, answer_Judged_Refused };
-typedef union answer_Judged answer_Judged;
-typedef struct card_Checked card_Checked;
+enum { answer_Reason_FewKnots, answer_Reason_ManyKnots, answer_Reason_OddLengths, answer_Reason_NotRising, answer_Reason_WideGap, answer_Reason_FarOrdinate, answer_Reason_UnfitEnd, answer_Reason_Stuck, answer_Reason_OutOfRange, answer_Reason_Jump, answer_Reason_Outside, answer_Reason_Meaningless, answer_Reason_NoGoodByte, answer_Reason_BadRecord, answer_Reason_UnknownCode, answer_Reason_LogLength, answer_Reason_Stranded, answer_Reason_FewPlaces, answer_Reason_LateMiddle, answer_Reason_NoRoom, answer_Reason_FullBook, answer_Reason_UnsortedRoom, answer_Reason_FewGoodBytes, answer_Reason_ManyValues, answer_Reason_UnfitParts, answer_Reason_ShortBuffer };
+typedef union answer_Reason answer_Reason;
+typedef struct answer_Refusal answer_Refusal;
+enum { core_result_Result_unit_Refusal_Ok, core_result_Result_unit_Refusal_Err };
+typedef union core_result_Result_unit_Refusal core_result_Result_unit_Refusal;
+typedef struct list_u16 list_u16;
+typedef struct knots_fn_stand_each_Self_list_u16_list_u16 knots_fn_stand_each_Self_list_u16_list_u16;
+typedef struct core_result_ErrResidual_Refusal core_result_ErrResidual_Refusal;
+enum { core_ops_ControlFlow_ErrResidual_Refusal_unit_Continue, core_ops_ControlFlow_ErrResidual_Refusal_unit_Break };
+typedef union core_ops_ControlFlow_ErrResidual_Refusal_unit core_ops_ControlFlow_ErrResidual_Refusal_unit;
+typedef struct list_u32 list_u32;
+typedef struct knots_fn_in_range_each_Self_list_u16_list_u32_list_u32 knots_fn_in_range_each_Self_list_u16_list_u32_list_u32;
+typedef struct list_u8 list_u8;
+typedef struct card_bytes_fn_knots_due_each_Self_list_u8 card_bytes_fn_knots_due_each_Self_list_u8;
+typedef struct card_listing_Listed card_listing_Listed;
+typedef struct mut_list_u8 mut_list_u8;
+typedef struct array_u16_0 array_u16_0;
+typedef struct array_u32_0 array_u32_0;
+enum { core_option_Option_u8_None, core_option_Option_u8_Some };
+typedef union core_option_Option_u8 core_option_Option_u8;
+typedef struct array_core_option_Option_u8_0 array_core_option_Option_u8_0;
+typedef struct knots_Lent knots_Lent;
 typedef struct knots_Kind knots_Kind;
 typedef struct array_u16_64 array_u16_64;
 typedef struct array_u32_64 array_u32_64;
 typedef struct decode_Card decode_Card;
 typedef struct opened_Opened opened_Opened;
-typedef struct list_u8 list_u8;
-typedef struct mut_list_u16 mut_list_u16;
-typedef struct mut_list_u32 mut_list_u32;
-typedef struct record_Cursor record_Cursor;
-enum { record_Found_Body, record_Found_Bad };
-typedef union record_Found record_Found;
-typedef struct card_listing_Listed card_listing_Listed;
-typedef struct mut_list_u8 mut_list_u8;
-typedef struct array_u8_0 array_u8_0;
+typedef struct core_slots_Slots_u8 core_slots_Slots_u8;
+typedef struct tuple_Slots_u8_unit_unit tuple_Slots_u8_unit_unit;
+typedef struct array_u8_4 array_u8_4;
+typedef struct array_u8_2 array_u8_2;
+enum { core_option_Option_Option_u8_None, core_option_Option_Option_u8_Some };
+typedef union core_option_Option_Option_u8 core_option_Option_Option_u8;
+enum { core_option_Option_ref_Option_u8_None, core_option_Option_ref_Option_u8_Some };
+typedef union core_option_Option_ref_Option_u8 core_option_Option_ref_Option_u8;
+typedef struct list_core_option_Option_u8 list_core_option_Option_u8;
 typedef struct array_u8_4096 array_u8_4096;
 typedef struct jumps_Span jumps_Span;
 typedef struct jumps_Spans jumps_Spans;
 typedef struct gaps_Knot gaps_Knot;
 enum { jumps_Order_Third, jumps_Order_Fourth };
 typedef union jumps_Order jumps_Order;
-typedef struct list_u16 list_u16;
-typedef struct list_u32 list_u32;
 typedef struct array_u8_3 array_u8_3;
 typedef struct array_u8_8 array_u8_8;
-typedef struct array_u8_4 array_u8_4;
+typedef struct lists_Lists lists_Lists;
 
-/* answer::Judged */
-union answer_Judged {
+/* answer::Reason. Why something is refused: document 01's table and document 02's, in the order of their
+   numbers, from 1 on. */
+union answer_Reason {
+    uint8_t tag;
+};
+
+/* answer::Refusal. A refusal: why, and at which place. */
+struct answer_Refusal {
+    answer_Reason reason;
+    uint32_t place;
+};
+
+/* core::result::Result<unit,Refusal> */
+union core_result_Result_unit_Refusal {
     uint8_t tag;
     struct {
         uint8_t tag;
-        uint32_t f0;
-        uint32_t f1;
-    } Refused;
+        answer_Refusal f0;
+    } Err;
 };
 
-/* card::Checked. The kind of card is its head's: 1 or 6. Zeros behind a refusal. */
-struct card_Checked {
-    uint32_t number;
-    uint32_t place;
-    uint32_t knots;
-    uint32_t left;
-    uint32_t right;
-    uint32_t kind;
+struct list_u16 {
+    const uint16_t *at;
+    uint64_t length;
+};
+
+/* knots::fn::stand::each+Self<list_u16,list_u16> */
+struct knots_fn_stand_each_Self_list_u16_list_u16 {
+    list_u16 f0;
+    list_u16 f1;
+};
+
+/* core::result::ErrResidual<Refusal>. What `?` hands to the function's result at an `Err`. */
+struct core_result_ErrResidual_Refusal {
+    answer_Refusal f0;
+};
+
+/* core::ops::ControlFlow<ErrResidual<Refusal>,unit>. Whether `?` goes on with a value or leaves the
+   function. */
+union core_ops_ControlFlow_ErrResidual_Refusal_unit {
+    uint8_t tag;
+    struct {
+        uint8_t tag;
+        core_result_ErrResidual_Refusal f0;
+    } Break;
+};
+
+struct list_u32 {
+    const uint32_t *at;
+    uint64_t length;
+};
+
+/* knots::fn::in_range::each+Self<list_u16,list_u32,list_u32> */
+struct knots_fn_in_range_each_Self_list_u16_list_u32_list_u32 {
+    list_u16 f0;
+    list_u32 f1;
+    list_u32 f2;
+};
+
+struct list_u8 {
+    const uint8_t *at;
+    uint64_t length;
+};
+
+/* card_bytes::fn::knots_due::each+Self<list_u8> */
+struct card_bytes_fn_knots_due_each_Self_list_u8 {
+    list_u8 f0;
+};
+
+/* card_listing::Listed. The card's own verdict, and the length of its listing. */
+struct card_listing_Listed {
+    core_result_Result_unit_Refusal verdict;
+    uint64_t length;
+};
+
+struct mut_list_u8 {
+    uint8_t *at;
+    uint64_t length;
+};
+
+struct array_u16_0 {
+    uint16_t e[1];
+};
+
+struct array_u32_0 {
+    uint32_t e[1];
+};
+
+/* core::option::Option<u8> */
+union core_option_Option_u8 {
+    uint8_t tag;
+    struct {
+        uint8_t tag;
+        uint8_t f0;
+    } Some;
+};
+
+struct array_core_option_Option_u8_0 {
+    core_option_Option_u8 e[1];
+};
+
+/* knots::Lent. A card as four lists lend it, with the codes of its ends. */
+struct knots_Lent {
+    list_u16 minutes;
+    list_u16 ordinates;
+    list_u32 slopes;
+    list_u32 curvatures;
+    uint16_t left;
+    uint16_t right;
 };
 
 /* knots::Kind. What differs between kinds of card; what they share is below. */
@@ -116,60 +224,53 @@ struct decode_Card {
 /* opened::Opened. The kind of card is what it was judged as. The card is there wherever the records are in
    order, also where 4, 5, 6, 9 or 10 refuses it; elsewhere it has zeros alone. */
 struct opened_Opened {
-    answer_Judged verdict;
+    core_result_Result_unit_Refusal verdict;
     knots_Kind kind;
     decode_Card card;
 };
 
-struct list_u8 {
-    const uint8_t *at;
-    uint64_t length;
+/* core::slots::Slots<u8>. `items` has a value for every place, and `filled` says which places hold theirs.
+   An empty place keeps in `items` the value that it held last, whatever its bytes are now, and no one can
+   read it. */
+struct core_slots_Slots_u8 {
+    unsigned char *ptr;
+    uint64_t len;
 };
 
-struct mut_list_u16 {
-    uint16_t *at;
-    uint64_t length;
+/* tuple<Slots<u8>,unit,unit> */
+struct tuple_Slots_u8_unit_unit {
+    core_slots_Slots_u8 f0;
 };
 
-struct mut_list_u32 {
-    uint32_t *at;
-    uint64_t length;
+struct array_u8_4 {
+    uint8_t e[4];
 };
 
-/* record::Cursor. Where the next record is due. */
-struct record_Cursor {
-    uint64_t at;
+struct array_u8_2 {
+    uint8_t e[2];
 };
 
-/* record::Found. A record's body and the cursor behind it; or the offset of a record that is cut short or
-   of another kind or length. */
-union record_Found {
+/* core::option::Option<Option<u8>> */
+union core_option_Option_Option_u8 {
     uint8_t tag;
     struct {
         uint8_t tag;
-        uint64_t start;
-        record_Cursor next;
-    } Body;
+        core_option_Option_u8 f0;
+    } Some;
+};
+
+/* core::option::Option<ref_Option<u8>> */
+union core_option_Option_ref_Option_u8 {
+    uint8_t tag;
     struct {
         uint8_t tag;
-        uint64_t f0;
-    } Bad;
+        const core_option_Option_u8 *f0;
+    } Some;
 };
 
-/* card_listing::Listed. The card's own number and place, and the length of its listing. */
-struct card_listing_Listed {
-    uint32_t number;
-    uint32_t place;
+struct list_core_option_Option_u8 {
+    const core_option_Option_u8 *at;
     uint64_t length;
-};
-
-struct mut_list_u8 {
-    uint8_t *at;
-    uint64_t length;
-};
-
-struct array_u8_0 {
-    uint8_t e[1];
 };
 
 struct array_u8_4096 {
@@ -204,16 +305,6 @@ union jumps_Order {
     uint8_t tag;
 };
 
-struct list_u16 {
-    const uint16_t *at;
-    uint64_t length;
-};
-
-struct list_u32 {
-    const uint32_t *at;
-    uint64_t length;
-};
-
 struct array_u8_3 {
     uint8_t e[3];
 };
@@ -222,10 +313,15 @@ struct array_u8_8 {
     uint8_t e[8];
 };
 
-struct array_u8_4 {
-    uint8_t e[4];
+/* lists::Lists */
+struct lists_Lists {
+    list_u16 minutes;
+    list_u16 ordinates;
+    list_u32 slopes;
+    list_u32 curvatures;
 };
 
+_Static_assert(sizeof(uint8_t) == 1, "the bytes that are counted by");
 
 static inline int16_t s16(uint16_t x)
 {
@@ -248,7 +344,11 @@ static inline int64_t s64(uint64_t x)
     return y;
 }
 
-static const array_u8_0 card_listing_list_card_v26 = {{0}};
+static const array_u16_0 card_listing_list_card_v13 = {{0}};
+
+static const array_u32_0 card_listing_list_card_v19 = {{0}};
+
+static const array_core_option_Option_u8_0 card_listing_list_card_v25 = {{{0}}};
 
 static const array_u8_3 listing_accepted_line_v7 = {{
     111, 107, 32,
@@ -262,17 +362,47 @@ static const array_u8_4 listing_refused_line_v15 = {{
     32, 97, 116, 32,
 }};
 
-static answer_Judged answer_first(answer_Judged step, answer_Judged next);
-static answer_Judged answer_refuse(uint32_t number, uint32_t place, bool test);
-static card_Checked card_Checked_of(answer_Judged verdict, knots_Kind kind, decode_Card card);
-static answer_Judged card_into(opened_Opened opened, uint64_t minutes, uint64_t ordinates, uint64_t slopes, uint64_t curvatures);
-static card_Checked card_read(list_u8 card, mut_list_u16 minutes, mut_list_u16 ordinates, mut_list_u32 slopes, mut_list_u32 curvatures);
-static answer_Judged card_bytes_due(list_u8 list, uint64_t at, uint16_t kind, uint16_t length);
-static answer_Judged card_bytes_end_due(list_u8 list, uint64_t n);
-static answer_Judged card_bytes_head_due(list_u8 list, uint16_t head);
-static answer_Judged card_bytes_knots_due(list_u8 list, uint64_t n);
-static answer_Judged card_bytes_records_due(list_u8 list, uint64_t n);
+static uint32_t answer_Reason_number(answer_Reason self);
+static uint32_t answer_Refusal_number(answer_Refusal self);
+static core_result_Result_unit_Refusal answer_each_each_Self_list_u16_list_u16(uint64_t a1, knots_fn_stand_each_Self_list_u16_list_u16 a2);
+static core_result_Result_unit_Refusal answer_each_each_Self_list_u16_list_u32_list_u32(uint64_t a1, knots_fn_in_range_each_Self_list_u16_list_u32_list_u32 a2);
+static core_result_Result_unit_Refusal answer_each_each_Self_list_u8(uint64_t a1, card_bytes_fn_knots_due_each_Self_list_u8 a2);
+static core_result_Result_unit_Refusal answer_refuse(answer_Reason reason, uint32_t place, bool test);
+static void card_bytes_Destruct_none_drop_each_Self_list_u8(card_bytes_fn_knots_due_each_Self_list_u8 a1);
+static core_result_Result_unit_Refusal card_bytes_due(list_u8 list, uint64_t at, uint16_t kind, uint16_t length);
+static core_result_Result_unit_Refusal card_bytes_end_due(list_u8 list, uint64_t n);
+static core_result_Result_unit_Refusal card_bytes_fn_knots_due_each(const card_bytes_fn_knots_due_each_Self_list_u8 *a1, uint64_t a2);
+static core_result_Result_unit_Refusal card_bytes_fn_knots_due_each_Fn_call(const card_bytes_fn_knots_due_each_Self_list_u8 *a1, uint64_t a2);
+static core_result_Result_unit_Refusal card_bytes_head_due(list_u8 list, uint16_t head);
+static core_result_Result_unit_Refusal card_bytes_knots_due(list_u8 list, uint64_t n);
+static core_result_Result_unit_Refusal card_bytes_records_due(list_u8 list, uint64_t n);
 static card_listing_Listed card_listing_list_card(list_u8 card, mut_list_u8 text);
+static void core_assertions_unreachable(void);
+static answer_Refusal core_convert_AnyFrom_from_Refusal(answer_Refusal a1);
+static tuple_Slots_u8_unit_unit core_core_slice_edits_copy_over_FnOnce_call_once_u8(core_slots_Slots_u8 a2, list_u8 a4);
+static uint32_t core_int_bits_i32_from_le_bytes(array_u8_4 a1);
+static uint64_t core_int_i64_abs(uint64_t a1);
+static uint64_t core_int_i64_unsigned_abs(uint64_t a1);
+static uint16_t core_int_u16_cast_signed(uint16_t a1);
+static uint16_t core_int_u16_from_le_bytes(array_u8_2 a1);
+static uint16_t core_int_u16_max(uint16_t a1, uint16_t a2);
+static uint16_t core_int_u16_saturating_sub(uint16_t a1, uint16_t a2);
+static uint32_t core_int_u32_cast_signed(uint32_t a1);
+static uint32_t core_int_u32_from_le_bytes(array_u8_4 a1);
+static uint64_t core_int_usize_min(uint64_t a1, uint64_t a2);
+static uint64_t core_int_usize_saturating_sub(uint64_t a1, uint64_t a2);
+static core_option_Option_u8 core_option_Option_Option_T_flatten_u8(core_option_Option_Option_u8 a1);
+static const core_option_Option_u8 *core_option_Option_unwrap_ref_Option_u8(core_option_Option_ref_Option_u8 a1);
+static core_option_Option_Option_u8 core_option_more_Option_ref_T_copied_Option_u8(core_option_Option_ref_Option_u8 a1);
+static void core_ptr_copy_drop_copy_bits_u8(unsigned char *a1, unsigned char *a2, uint64_t a3);
+static core_result_Result_unit_Refusal core_result_ResultFromResidualErrResidual_from_residual_unit_Refusal_Refusal(core_result_ErrResidual_Refusal a1);
+static core_ops_ControlFlow_ErrResidual_Refusal_unit core_result_ResultTry_branch_unit_Refusal(core_result_Result_unit_Refusal a1);
+static tuple_Slots_u8_unit_unit core_slice_edits_copy_over_u8(core_slots_Slots_u8 row, list_u8 src);
+static void core_slice_edits_slice_T_copy_from_slice_u8(mut_list_u8 a1, list_u8 a2);
+static core_option_Option_ref_Option_u8 core_slice_index_UsizeSliceIndexRefSlice_pick_Option_u8(uint64_t a1, list_core_option_Option_u8 a2);
+static core_option_Option_ref_Option_u8 core_slice_slice_T_get_Option_u8_u64_ref_Option_u8(list_core_option_Option_u8 a1, uint64_t a2);
+static void core_slots_Slots_copy_in_u8(core_slots_Slots_u8 *a1, uint64_t a2, list_u8 a3);
+static void core_slots_lends_with_slots_u8_unit_list_u8_unit_unit(mut_list_u8 a1, list_u8 a3);
 static uint64_t decimal_magnitude(uint64_t number);
 static uint64_t decimal_put_byte(mut_list_u8 text, uint64_t at, uint8_t byte);
 static uint64_t decimal_put_decimal(mut_list_u8 text, uint64_t at, uint64_t number);
@@ -280,7 +410,7 @@ static uint64_t decimal_put_field(mut_list_u8 text, uint64_t at, uint64_t number
 static uint64_t decimal_put_signed(mut_list_u8 text, uint64_t at, uint64_t number);
 static uint64_t decimal_put_worded(mut_list_u8 text, uint64_t at, list_u8 words, uint64_t number);
 static uint64_t decimal_put_words(mut_list_u8 text, uint64_t at, list_u8 words);
-static void decode_Card_give(decode_Card self, mut_list_u16 minutes, mut_list_u16 ordinates, mut_list_u32 slopes, mut_list_u32 curvatures);
+static knots_Lent decode_Card_lent(const decode_Card *a1);
 static decode_Card decode_Card_none(void);
 static decode_Card decode_Card_of(list_u8 list);
 static array_u8_4096 io_buffer(void);
@@ -295,47 +425,49 @@ static uint64_t jumps_cleared(jumps_Order order, uint64_t h);
 static uint64_t jumps_crossed(uint64_t a, uint64_t p, uint64_t b, uint64_t q);
 static bool jumps_meet(jumps_Span left, jumps_Span right);
 static bool jumps_over(uint64_t jump, uint64_t allowed);
+static void knots_Destruct_none_drop_each_Self_list_u16_list_u16(knots_fn_stand_each_Self_list_u16_list_u16 a1);
+static void knots_Destruct_none_drop_each_Self_list_u16_list_u32_list_u32(knots_fn_in_range_each_Self_list_u16_list_u32_list_u32 a1);
 static knots_Kind knots_Kind_quintic(void);
 static knots_Kind knots_Kind_sloped(void);
 static bool knots_beyond(uint32_t limit, uint32_t z);
-static answer_Judged knots_codes(knots_Kind kind, uint16_t left, uint16_t right);
-static answer_Judged knots_counted(uint64_t n);
+static core_result_Result_unit_Refusal knots_codes(knots_Kind kind, uint16_t left, uint16_t right);
+static core_result_Result_unit_Refusal knots_counted(uint64_t n);
 static bool knots_curvature_beyond(list_u16 xs, list_u32 cs, uint64_t i);
 static uint32_t knots_curvature_limit(uint16_t gap);
-static answer_Judged knots_in_range(list_u16 xs, list_u32 ms, list_u32 cs);
-static uint32_t knots_in_range_at(list_u16 xs, list_u32 ms, list_u32 cs, uint64_t i);
-static answer_Judged knots_room(uint64_t needed, uint64_t lent);
-static answer_Judged knots_same_lengths(uint64_t n, uint64_t ys, uint64_t ms, uint64_t cs);
+static core_result_Result_unit_Refusal knots_fn_in_range_each(const knots_fn_in_range_each_Self_list_u16_list_u32_list_u32 *a1, uint64_t a2);
+static core_result_Result_unit_Refusal knots_fn_in_range_each_Fn_call(const knots_fn_in_range_each_Self_list_u16_list_u32_list_u32 *a1, uint64_t a2);
+static core_result_Result_unit_Refusal knots_fn_stand_each(const knots_fn_stand_each_Self_list_u16_list_u16 *a1, uint64_t a2);
+static core_result_Result_unit_Refusal knots_fn_stand_each_Fn_call(const knots_fn_stand_each_Self_list_u16_list_u16 *a1, uint64_t a2);
+static core_result_Result_unit_Refusal knots_in_range(list_u16 xs, list_u32 ms, list_u32 cs);
+static core_result_Result_unit_Refusal knots_in_range_at(list_u16 xs, list_u32 ms, list_u32 cs, uint64_t i);
 static bool knots_slope_beyond(list_u32 ms, uint64_t i);
-static answer_Judged knots_stand(list_u16 xs, list_u16 ys);
-static uint32_t knots_stands_at(list_u16 xs, list_u16 ys, uint64_t i);
+static core_result_Result_unit_Refusal knots_stand(list_u16 xs, list_u16 ys);
+static core_result_Result_unit_Refusal knots_stands_at(list_u16 xs, list_u16 ys, uint64_t i);
 static uint64_t libc_read(uint32_t a1, mut_list_u8 a2);
 static uint64_t libc_write(uint32_t a1, list_u8 a2);
 static void lister_main(void);
 static uint64_t listing_accepted_line(mut_list_u8 text, uint64_t at, uint32_t knots);
 static uint64_t listing_counted_line(mut_list_u8 text, uint64_t at, uint16_t x, uint32_t y, uint32_t m, uint32_t c, uint32_t count);
-static uint8_t listing_faults_at(list_u8 faults, uint64_t i);
+static core_option_Option_u8 listing_faults_at(list_core_option_Option_u8 faults, uint64_t i);
 static uint64_t listing_four_fields(mut_list_u8 text, uint64_t at, uint16_t x, uint32_t y, uint32_t m, uint32_t c, uint8_t last);
 static uint64_t listing_knot_line(mut_list_u8 text, uint64_t at, uint16_t x, uint32_t y, uint32_t m, uint32_t c);
-static uint64_t listing_knot_lines(mut_list_u8 text, list_u16 minutes, list_u16 ordinates, list_u32 slopes, list_u32 curvatures, list_u8 faults);
-static uint64_t listing_list(uint32_t number, uint32_t place, list_u16 minutes, list_u16 ordinates, list_u32 slopes, list_u32 curvatures, list_u8 faults, mut_list_u8 text);
-static uint64_t listing_listed_line(mut_list_u8 text, uint64_t at, uint16_t x, uint32_t y, uint32_t m, uint32_t c, uint8_t faults);
+static uint64_t listing_knot_lines(mut_list_u8 text, list_u16 minutes, list_u16 ordinates, list_u32 slopes, list_u32 curvatures, list_core_option_Option_u8 faults);
+static uint64_t listing_list(uint32_t number, uint32_t place, list_u16 minutes, list_u16 ordinates, list_u32 slopes, list_u32 curvatures, list_core_option_Option_u8 faults, mut_list_u8 text);
+static uint64_t listing_listed_line(mut_list_u8 text, uint64_t at, uint16_t x, uint32_t y, uint32_t m, uint32_t c, core_option_Option_u8 faults);
 static uint64_t listing_refused_line(mut_list_u8 text, uint64_t at, uint32_t number, uint32_t place);
+static gaps_Knot lists_Lists_knot(lists_Lists a1, uint64_t a2);
+static core_result_Result_unit_Refusal lists_Lists_smooth(lists_Lists a1, knots_Kind a2, uint16_t a3, uint16_t a4);
+static jumps_Spans lists_Lists_spans(lists_Lists a1, knots_Kind a2, uint64_t a3);
 static bool lists_asks(knots_Kind kind, jumps_Order order, uint16_t code);
 static uint16_t lists_code_at(uint16_t left, uint16_t right, uint64_t n, uint64_t i);
 static bool lists_jumps_at(knots_Kind kind, jumps_Order order, uint16_t code, jumps_Span before, jumps_Span after);
 static gaps_Knot lists_knot_at(list_u16 ys, list_u32 ms, list_u32 cs, uint64_t i);
-static answer_Judged lists_numbers_sound(knots_Kind kind, uint16_t left, uint16_t right, list_u16 xs, list_u16 ys, list_u32 ms, list_u32 cs);
-static uint32_t lists_rough_at(knots_Kind kind, uint16_t code, jumps_Spans before, jumps_Spans after);
-static answer_Judged lists_smooth(knots_Kind kind, uint16_t left, uint16_t right, list_u16 xs, list_u16 ys, list_u32 ms, list_u32 cs);
-static answer_Judged lists_sound(knots_Kind kind, uint16_t left, uint16_t right, list_u16 xs, list_u16 ys, list_u32 ms, list_u32 cs);
-static jumps_Spans lists_spans_at(knots_Kind kind, list_u16 xs, list_u16 ys, list_u32 ms, list_u32 cs, uint64_t i);
+static core_result_Result_unit_Refusal lists_numbers_sound(knots_Kind kind, knots_Lent card);
+static core_result_Result_unit_Refusal lists_rough_at(knots_Kind kind, uint16_t code, jumps_Spans before, jumps_Spans after, uint32_t place);
+static core_result_Result_unit_Refusal lists_sound(knots_Kind kind, knots_Lent card);
 static uint16_t little_endian_read_i16(list_u8 list, uint64_t at);
 static uint32_t little_endian_read_i32(list_u8 list, uint64_t at);
 static uint16_t little_endian_read_u16(list_u8 list, uint64_t at);
-static uint32_t little_endian_read_u32(list_u8 list, uint64_t at);
-static uint16_t little_endian_signed16(uint16_t bits);
-static uint32_t little_endian_signed32(uint32_t bits);
 static uint64_t minutes_back(uint64_t i);
 static uint16_t minutes_gap(uint16_t from, uint16_t to);
 static uint16_t minutes_left_gap(list_u16 xs, uint64_t i);
@@ -344,188 +476,420 @@ static uint16_t minutes_right_gap(list_u16 xs, uint64_t i);
 static uint16_t minutes_wider_gap(list_u16 xs, uint64_t i);
 static opened_Opened opened_Opened_by_head(list_u8 card);
 static opened_Opened opened_Opened_of(knots_Kind kind, list_u8 card);
-static answer_Judged opened_behind_head(knots_Kind kind, list_u8 card);
+static core_result_Result_unit_Refusal opened_behind_head(knots_Kind kind, list_u8 card);
 static knots_Kind opened_kind_by(list_u8 card);
-static answer_Judged opened_shaped(knots_Kind kind, list_u8 card);
-static answer_Judged opened_sound(knots_Kind kind, decode_Card card);
-static record_Cursor record_Cursor_new(uint64_t at);
-static record_Found record_Cursor_read(record_Cursor self, list_u8 list, uint16_t kind, uint16_t length);
+static core_result_Result_unit_Refusal opened_shaped(knots_Kind kind, list_u8 card);
+static core_result_Result_unit_Refusal opened_sound(knots_Kind kind, const decode_Card *card);
 static bool record_is_at(list_u8 list, uint64_t at, uint16_t kind, uint16_t length);
 
-/* answer::first. "The orders go before places": the first that refuses counts. */
-static answer_Judged answer_first(answer_Judged step, answer_Judged next)
+/* answer::Reason::number. Its number in the table. */
+static uint32_t answer_Reason_number(answer_Reason self)
 {
-    uint32_t number, place;
-    if (step.tag == answer_Judged_Accepted) {
-        return next;
-    } else {
-        number = step.Refused.f0;
-        place = step.Refused.f1;
-        return (answer_Judged){.Refused = {answer_Judged_Refused, number, place}};
+    return (uint32_t)self.tag + 1u;
+}
+
+/* answer::Refusal::number */
+static uint32_t answer_Refusal_number(answer_Refusal self)
+{
+    return answer_Reason_number(self.reason);
+}
+
+/* answer::each<each+Self<list_u16,list_u16>>. "Within one step of an order the lowest place wins": a check
+   at the places before n, one after the other. */
+static core_result_Result_unit_Refusal answer_each_each_Self_list_u16_list_u16(uint64_t a1, knots_fn_stand_each_Self_list_u16_list_u16 a2)
+{
+    core_result_Result_unit_Refusal result, v9;
+    uint64_t i;
+    core_ops_ControlFlow_ErrResidual_Refusal_unit v8;
+    i = 0ull;
+    while (i < a1) {
+        v9 = knots_fn_stand_each_Fn_call(&a2, i);
+        v8 = core_result_ResultTry_branch_unit_Refusal(v9);
+        if (v8.tag != core_ops_ControlFlow_ErrResidual_Refusal_unit_Continue) {
+            result = core_result_ResultFromResidualErrResidual_from_residual_unit_Refusal_Refusal(v8.Break.f0);
+            knots_Destruct_none_drop_each_Self_list_u16_list_u16(a2);
+            return result;
+        }
+        i = i + 1ull;
     }
+    result = (core_result_Result_unit_Refusal){.tag = core_result_Result_unit_Refusal_Ok};
+    knots_Destruct_none_drop_each_Self_list_u16_list_u16(a2);
+    return result;
+}
+
+/* answer::each<each+Self<list_u16,list_u32,list_u32>>. "Within one step of an order the lowest place
+   wins": a check at the places before n, one after the other. */
+static core_result_Result_unit_Refusal answer_each_each_Self_list_u16_list_u32_list_u32(uint64_t a1, knots_fn_in_range_each_Self_list_u16_list_u32_list_u32 a2)
+{
+    core_result_Result_unit_Refusal result, v9;
+    uint64_t i;
+    core_ops_ControlFlow_ErrResidual_Refusal_unit v8;
+    i = 0ull;
+    while (i < a1) {
+        v9 = knots_fn_in_range_each_Fn_call(&a2, i);
+        v8 = core_result_ResultTry_branch_unit_Refusal(v9);
+        if (v8.tag != core_ops_ControlFlow_ErrResidual_Refusal_unit_Continue) {
+            result = core_result_ResultFromResidualErrResidual_from_residual_unit_Refusal_Refusal(v8.Break.f0);
+            knots_Destruct_none_drop_each_Self_list_u16_list_u32_list_u32(a2);
+            return result;
+        }
+        i = i + 1ull;
+    }
+    result = (core_result_Result_unit_Refusal){.tag = core_result_Result_unit_Refusal_Ok};
+    knots_Destruct_none_drop_each_Self_list_u16_list_u32_list_u32(a2);
+    return result;
+}
+
+/* answer::each<each+Self<list_u8>>. "Within one step of an order the lowest place wins": a check at the
+   places before n, one after the other. */
+static core_result_Result_unit_Refusal answer_each_each_Self_list_u8(uint64_t a1, card_bytes_fn_knots_due_each_Self_list_u8 a2)
+{
+    core_result_Result_unit_Refusal result, v9;
+    uint64_t i;
+    core_ops_ControlFlow_ErrResidual_Refusal_unit v8;
+    i = 0ull;
+    while (i < a1) {
+        v9 = card_bytes_fn_knots_due_each_Fn_call(&a2, i);
+        v8 = core_result_ResultTry_branch_unit_Refusal(v9);
+        if (v8.tag != core_ops_ControlFlow_ErrResidual_Refusal_unit_Continue) {
+            result = core_result_ResultFromResidualErrResidual_from_residual_unit_Refusal_Refusal(v8.Break.f0);
+            card_bytes_Destruct_none_drop_each_Self_list_u8(a2);
+            return result;
+        }
+        i = i + 1ull;
+    }
+    result = (core_result_Result_unit_Refusal){.tag = core_result_Result_unit_Refusal_Ok};
+    card_bytes_Destruct_none_drop_each_Self_list_u8(a2);
+    return result;
 }
 
 /* answer::refuse. "given exactly when". */
-static answer_Judged answer_refuse(uint32_t number, uint32_t place, bool test)
+static core_result_Result_unit_Refusal answer_refuse(answer_Reason reason, uint32_t place, bool test)
 {
     if (test) {
-        return (answer_Judged){.Refused = {answer_Judged_Refused, number, place}};
+        return (core_result_Result_unit_Refusal){.Err = {core_result_Result_unit_Refusal_Err, (answer_Refusal){reason, place}}};
     }
-    return (answer_Judged){.tag = answer_Judged_Accepted};
+    return (core_result_Result_unit_Refusal){.tag = core_result_Result_unit_Refusal_Ok};
 }
 
-/* card::Checked::of */
-static card_Checked card_Checked_of(answer_Judged verdict, knots_Kind kind, decode_Card card)
+/* card_bytes::Destruct++none::drop<each+Self<list_u8>> */
+static void card_bytes_Destruct_none_drop_each_Self_list_u8(card_bytes_fn_knots_due_each_Self_list_u8 a1)
 {
-    uint32_t number, place;
-    if (verdict.tag == answer_Judged_Refused) {
-        number = verdict.Refused.f0;
-        place = verdict.Refused.f1;
-        return (card_Checked){number, place, 0u, 0u, 0u, 0u};
-    } else {
-        return (card_Checked){0u, 0u, (uint32_t)card.knots, (uint32_t)card.left, (uint32_t)card.right, (uint32_t)kind.head};
-    }
-}
-
-/* card::into. 3, the card's, 26: of a card that was opened, and the lengths of four lists. */
-static answer_Judged card_into(opened_Opened opened, uint64_t minutes, uint64_t ordinates, uint64_t slopes, uint64_t curvatures)
-{
-    uint32_t number, place, number_9, place_10;
-    answer_Judged v11;
-    v11 = knots_same_lengths(minutes, ordinates, slopes, curvatures);
-    if (v11.tag == answer_Judged_Refused) {
-        number = v11.Refused.f0;
-        place = v11.Refused.f1;
-        return (answer_Judged){.Refused = {answer_Judged_Refused, number, place}};
-    } else {
-        if (opened.verdict.tag == answer_Judged_Refused) {
-            number_9 = opened.verdict.Refused.f0;
-            place_10 = opened.verdict.Refused.f1;
-            return (answer_Judged){.Refused = {answer_Judged_Refused, number_9, place_10}};
-        } else {
-            return knots_room(opened.card.knots, minutes);
-        }
-    }
-}
-
-/* card::read. On acceptance n places of each list are written. */
-static card_Checked card_read(list_u8 card, mut_list_u16 minutes, mut_list_u16 ordinates, mut_list_u32 slopes, mut_list_u32 curvatures)
-{
-    opened_Opened opened;
-    answer_Judged verdict;
-    opened = opened_Opened_by_head(card);
-    verdict = card_into(opened, minutes.length, ordinates.length, slopes.length, curvatures.length);
-    if (verdict.tag == answer_Judged_Refused) {
-        return card_Checked_of(verdict, opened.kind, opened.card);
-    } else {
-    }
-    decode_Card_give(opened.card, (mut_list_u16){minutes.at, minutes.length}, (mut_list_u16){ordinates.at, ordinates.length}, (mut_list_u32){slopes.at, slopes.length}, (mut_list_u32){curvatures.at, curvatures.length});
-    return card_Checked_of(verdict, opened.kind, opened.card);
+    (void)a1;
+    return;
 }
 
 /* card_bytes::due. A record that is due at an offset. */
-static answer_Judged card_bytes_due(list_u8 list, uint64_t at, uint16_t kind, uint16_t length)
+static core_result_Result_unit_Refusal card_bytes_due(list_u8 list, uint64_t at, uint16_t kind, uint16_t length)
 {
-    uint64_t place;
-    record_Found v6;
-    record_Cursor v7;
-    v7 = record_Cursor_new(at);
-    v6 = record_Cursor_read(v7, list, kind, length);
-    if (v6.tag == record_Found_Bad) {
-        place = v6.Bad.f0;
-        return (answer_Judged){.Refused = {answer_Judged_Refused, 14u, (uint32_t)place}};
-    } else {
-        return (answer_Judged){.tag = answer_Judged_Accepted};
-    }
+    bool there;
+    there = record_is_at(list, at, kind, length);
+    return answer_refuse((answer_Reason){.tag = answer_Reason_BadRecord}, (uint32_t)at, !there);
 }
 
 /* card_bytes::end_due. The end, and nothing that follows it. */
-static answer_Judged card_bytes_end_due(list_u8 list, uint64_t n)
+static core_result_Result_unit_Refusal card_bytes_end_due(list_u8 list, uint64_t n)
 {
     uint64_t size;
-    uint32_t number, place;
-    answer_Judged v7;
+    core_ops_ControlFlow_ErrResidual_Refusal_unit v7;
+    core_result_Result_unit_Refusal v8;
     size = 14ull + (16ull * n);
-    v7 = card_bytes_due(list, 10ull + (16ull * n), 3, 0);
-    if (v7.tag == answer_Judged_Refused) {
-        number = v7.Refused.f0;
-        place = v7.Refused.f1;
-        return (answer_Judged){.Refused = {answer_Judged_Refused, number, place}};
-    } else {
-        return answer_refuse(14u, (uint32_t)size, size < list.length);
+    v8 = card_bytes_due(list, 10ull + (16ull * n), 3, 0);
+    v7 = core_result_ResultTry_branch_unit_Refusal(v8);
+    if (v7.tag != core_ops_ControlFlow_ErrResidual_Refusal_unit_Continue) {
+        return core_result_ResultFromResidualErrResidual_from_residual_unit_Refusal_Refusal(v7.Break.f0);
     }
+    return answer_refuse((answer_Reason){.tag = answer_Reason_BadRecord}, (uint32_t)size, size < list.length);
+}
+
+/* card_bytes::fn::knots_due::each */
+static core_result_Result_unit_Refusal card_bytes_fn_knots_due_each(const card_bytes_fn_knots_due_each_Self_list_u8 *a1, uint64_t a2)
+{
+    return card_bytes_due(a1->f0, 10ull + (16ull * a2), 2, 12);
+}
+
+/* card_bytes::fn::knots_due::each+Fn::call */
+static core_result_Result_unit_Refusal card_bytes_fn_knots_due_each_Fn_call(const card_bytes_fn_knots_due_each_Self_list_u8 *a1, uint64_t a2)
+{
+    return card_bytes_fn_knots_due_each(a1, a2);
 }
 
 /* card_bytes::head_due. The head of a card, of the kind that it has for such cards. */
-static answer_Judged card_bytes_head_due(list_u8 list, uint16_t head)
+static core_result_Result_unit_Refusal card_bytes_head_due(list_u8 list, uint16_t head)
 {
     return card_bytes_due(list, 0ull, head, 6);
 }
 
-/* card_bytes::knots_due. The knots' records. Of each only whether it is there is asked: a cursor's answer
-   a record would be a third of a card's test. */
-static answer_Judged card_bytes_knots_due(list_u8 list, uint64_t n)
+/* card_bytes::knots_due. The knots' records. */
+static core_result_Result_unit_Refusal card_bytes_knots_due(list_u8 list, uint64_t n)
 {
-    uint64_t i, at;
-    bool v7;
-    i = 0ull;
-    while (i < n) {
-        at = 10ull + (16ull * i);
-        v7 = record_is_at(list, at, 2, 12);
-        if (v7) {
-            i = i + 1ull;
-        } else {
-            return (answer_Judged){.Refused = {answer_Judged_Refused, 14u, (uint32_t)at}};
-        }
-    }
-    return (answer_Judged){.tag = answer_Judged_Accepted};
+    return answer_each_each_Self_list_u8(n, (card_bytes_fn_knots_due_each_Self_list_u8){(list_u8){list.at, list.length}});
 }
 
 /* card_bytes::records_due. "the other records". */
-static answer_Judged card_bytes_records_due(list_u8 list, uint64_t n)
+static core_result_Result_unit_Refusal card_bytes_records_due(list_u8 list, uint64_t n)
 {
-    uint32_t number, place;
-    answer_Judged v5;
-    v5 = card_bytes_knots_due(list, n);
-    if (v5.tag == answer_Judged_Refused) {
-        number = v5.Refused.f0;
-        place = v5.Refused.f1;
-        return (answer_Judged){.Refused = {answer_Judged_Refused, number, place}};
-    } else {
-        return card_bytes_end_due(list, n);
+    core_ops_ControlFlow_ErrResidual_Refusal_unit v5;
+    core_result_Result_unit_Refusal v6;
+    v6 = card_bytes_knots_due(list, n);
+    v5 = core_result_ResultTry_branch_unit_Refusal(v6);
+    if (v5.tag != core_ops_ControlFlow_ErrResidual_Refusal_unit_Continue) {
+        return core_result_ResultFromResidualErrResidual_from_residual_unit_Refusal_Refusal(v5.Break.f0);
     }
+    return card_bytes_end_due(list, n);
 }
 
 /* card_listing::list_card. The listing at the front of a buffer. */
 static card_listing_Listed card_listing_list_card(list_u8 card, mut_list_u8 text)
 {
-    array_u16_64 minutes, ordinates;
-    array_u32_64 slopes, curvatures;
-    card_Checked read;
-    uint64_t n, length;
-    for (size_t n_ = 0; n_ < 64; n_++)
-        minutes.e[n_] = 0;
-    for (size_t n_ = 0; n_ < 64; n_++)
-        ordinates.e[n_] = 0;
-    for (size_t n_ = 0; n_ < 64; n_++)
-        slopes.e[n_] = 0u;
-    for (size_t n_ = 0; n_ < 64; n_++)
-        curvatures.e[n_] = 0u;
-    read = card_read(card, (mut_list_u16){minutes.e, 64ull}, (mut_list_u16){ordinates.e, 64ull}, (mut_list_u32){slopes.e, 64ull}, (mut_list_u32){curvatures.e, 64ull});
-    n = (uint64_t)read.knots;
-    length = listing_list(read.number, read.place, (list_u16){minutes.e, n}, (list_u16){ordinates.e, n}, (list_u32){slopes.e, n}, (list_u32){curvatures.e, n}, (list_u8){card_listing_list_card_v26.e, 0ull}, (mut_list_u8){text.at, text.length});
-    return (card_listing_Listed){read.number, read.place, length};
+    uint32_t number, place;
+    uint64_t length, length_10;
+    knots_Lent held;
+    opened_Opened v11;
+    v11 = opened_Opened_by_head(card);
+    if (v11.verdict.tag == core_result_Result_unit_Refusal_Err) {
+        number = answer_Refusal_number(v11.verdict.Err.f0);
+        place = v11.verdict.Err.f0.place;
+        length = listing_list(number, place, (list_u16){card_listing_list_card_v13.e, 0ull}, (list_u16){card_listing_list_card_v13.e, 0ull}, (list_u32){card_listing_list_card_v19.e, 0ull}, (list_u32){card_listing_list_card_v19.e, 0ull}, (list_core_option_Option_u8){card_listing_list_card_v25.e, 0ull}, (mut_list_u8){text.at, text.length});
+        return (card_listing_Listed){v11.verdict, length};
+    } else {
+        held = decode_Card_lent(&v11.card);
+        length_10 = listing_list(0u, 0u, held.minutes, held.ordinates, held.slopes, held.curvatures, (list_core_option_Option_u8){card_listing_list_card_v25.e, 0ull}, (mut_list_u8){text.at, text.length});
+        return (card_listing_Listed){v11.verdict, length_10};
+    }
 }
 
-/* decimal::magnitude. The negative numbers reach one further than the others, so one goes by its
-   complement. */
+/* core::assertions::unreachable */
+static void core_assertions_unreachable(void)
+{
+    for (;;) {
+    }
+}
+
+/* core::convert::AnyFrom::from<Refusal> */
+static answer_Refusal core_convert_AnyFrom_from_Refusal(answer_Refusal a1)
+{
+    return a1;
+}
+
+/* core::core++slice++edits++copy_over+FnOnce::call_once<u8> */
+static tuple_Slots_u8_unit_unit core_core_slice_edits_copy_over_FnOnce_call_once_u8(core_slots_Slots_u8 a2, list_u8 a4)
+{
+    return core_slice_edits_copy_over_u8(a2, a4);
+}
+
+/* core::int::bits::i32::from_le_bytes */
+static uint32_t core_int_bits_i32_from_le_bytes(array_u8_4 a1)
+{
+    uint32_t v2;
+    v2 = core_int_u32_from_le_bytes(a1);
+    return core_int_u32_cast_signed(v2);
+}
+
+/* core::int::i64::abs */
+static uint64_t core_int_i64_abs(uint64_t a1)
+{
+    if (s64(a1) < s64(0ull)) {
+        return 0ull - a1;
+    } else {
+        return a1;
+    }
+}
+
+/* core::int::i64::unsigned_abs */
+static uint64_t core_int_i64_unsigned_abs(uint64_t a1)
+{
+    if (s64(a1) < s64(0ull)) {
+        return (uint64_t)((uint64_t)~a1) + 1ull;
+    } else {
+        return (uint64_t)a1;
+    }
+}
+
+/* core::int::u16::cast_signed */
+static uint16_t core_int_u16_cast_signed(uint16_t a1)
+{
+    if (a1 <= (uint16_t)32767) {
+        return (uint16_t)a1;
+    } else {
+        return (uint16_t)~(uint16_t)(uint16_t)((uint32_t)65535 - a1);
+    }
+}
+
+/* core::int::u16::from_le_bytes */
+static uint16_t core_int_u16_from_le_bytes(array_u8_2 a1)
+{
+    return (uint16_t)((uint32_t)(uint16_t)a1.e[0ull] + (uint16_t)((uint32_t)(uint16_t)a1.e[1ull] * 256));
+}
+
+/* core::int::u16::max */
+static uint16_t core_int_u16_max(uint16_t a1, uint16_t a2)
+{
+    if (a2 < a1) {
+        return a1;
+    } else {
+        return a2;
+    }
+}
+
+/* core::int::u16::saturating_sub */
+static uint16_t core_int_u16_saturating_sub(uint16_t a1, uint16_t a2)
+{
+    if (a2 <= a1) {
+        return (uint16_t)((uint32_t)a1 - a2);
+    } else {
+        return 0;
+    }
+}
+
+/* core::int::u32::cast_signed */
+static uint32_t core_int_u32_cast_signed(uint32_t a1)
+{
+    if (a1 <= (uint32_t)2147483647u) {
+        return (uint32_t)a1;
+    } else {
+        return (uint32_t)~(uint32_t)(4294967295u - a1);
+    }
+}
+
+/* core::int::u32::from_le_bytes */
+static uint32_t core_int_u32_from_le_bytes(array_u8_4 a1)
+{
+    return (((uint32_t)a1.e[0ull] + ((uint32_t)a1.e[1ull] * 256u)) + ((uint32_t)a1.e[2ull] * 65536u)) + ((uint32_t)a1.e[3ull] * 16777216u);
+}
+
+/* core::int::usize::min */
+static uint64_t core_int_usize_min(uint64_t a1, uint64_t a2)
+{
+    if (a2 < a1) {
+        return a2;
+    } else {
+        return a1;
+    }
+}
+
+/* core::int::usize::saturating_sub */
+static uint64_t core_int_usize_saturating_sub(uint64_t a1, uint64_t a2)
+{
+    if (a2 <= a1) {
+        return a1 - a2;
+    } else {
+        return 0ull;
+    }
+}
+
+/* core::option::Option+Option+T::flatten<u8> */
+static core_option_Option_u8 core_option_Option_Option_T_flatten_u8(core_option_Option_Option_u8 a1)
+{
+    if (a1.tag == core_option_Option_Option_u8_Some) {
+        return a1.Some.f0;
+    } else {
+        return (core_option_Option_u8){.tag = core_option_Option_u8_None};
+    }
+}
+
+/* core::option::Option::unwrap<ref_Option<u8>> */
+static const core_option_Option_u8 *core_option_Option_unwrap_ref_Option_u8(core_option_Option_ref_Option_u8 a1)
+{
+    if (a1.tag == core_option_Option_ref_Option_u8_Some) {
+        return a1.Some.f0;
+    } else {
+        core_assertions_unreachable();
+        for (;;) {
+        }
+    }
+}
+
+/* core::option::more::Option+ref+T::copied<Option<u8>> */
+static core_option_Option_Option_u8 core_option_more_Option_ref_T_copied_Option_u8(core_option_Option_ref_Option_u8 a1)
+{
+    const core_option_Option_u8 *v3;
+    if (a1.tag == core_option_Option_ref_Option_u8_Some) {
+        v3 = core_option_Option_unwrap_ref_Option_u8(a1);
+        return (core_option_Option_Option_u8){.Some = {core_option_Option_Option_u8_Some, *v3}};
+    } else {
+        return (core_option_Option_Option_u8){.tag = core_option_Option_Option_u8_None};
+    }
+}
+
+/* core::ptr::copy_drop::copy_bits<u8> */
+static void core_ptr_copy_drop_copy_bits_u8(unsigned char *a1, unsigned char *a2, uint64_t a3)
+{
+    uint64_t v4;
+    v4 = 0ull;
+    while (v4 < a3) {
+        *((uint8_t *)(void *)(a2 + (size_t)(v4 * 1ull))) = *((uint8_t *)(void *)(a1 + (size_t)(v4 * 1ull)));
+        v4 = v4 + 1ull;
+    }
+    return;
+}
+
+/* core::result::ResultFromResidualErrResidual::from_residual<unit,Refusal,Refusal> */
+static core_result_Result_unit_Refusal core_result_ResultFromResidualErrResidual_from_residual_unit_Refusal_Refusal(core_result_ErrResidual_Refusal a1)
+{
+    answer_Refusal v2;
+    v2 = core_convert_AnyFrom_from_Refusal(a1.f0);
+    return (core_result_Result_unit_Refusal){.Err = {core_result_Result_unit_Refusal_Err, v2}};
+}
+
+/* core::result::ResultTry::branch<unit,Refusal> */
+static core_ops_ControlFlow_ErrResidual_Refusal_unit core_result_ResultTry_branch_unit_Refusal(core_result_Result_unit_Refusal a1)
+{
+    if (a1.tag == core_result_Result_unit_Refusal_Ok) {
+        return (core_ops_ControlFlow_ErrResidual_Refusal_unit){.tag = core_ops_ControlFlow_ErrResidual_Refusal_unit_Continue};
+    } else {
+        return (core_ops_ControlFlow_ErrResidual_Refusal_unit){.Break = {core_ops_ControlFlow_ErrResidual_Refusal_unit_Break, (core_result_ErrResidual_Refusal){a1.Err.f0}}};
+    }
+}
+
+/* core::slice::edits::copy_over<u8> */
+static tuple_Slots_u8_unit_unit core_slice_edits_copy_over_u8(core_slots_Slots_u8 row, list_u8 src)
+{
+    core_slots_Slots_copy_in_u8(&row, 0ull, src);
+    return (tuple_Slots_u8_unit_unit){row};
+}
+
+/* core::slice::edits::slice+T::copy_from_slice<u8> */
+static void core_slice_edits_slice_T_copy_from_slice_u8(mut_list_u8 a1, list_u8 a2)
+{
+    core_slots_lends_with_slots_u8_unit_list_u8_unit_unit((mut_list_u8){a1.at, a1.length}, a2);
+    return;
+}
+
+/* core::slice::index::UsizeSliceIndexRefSlice::pick<Option<u8>> */
+static core_option_Option_ref_Option_u8 core_slice_index_UsizeSliceIndexRefSlice_pick_Option_u8(uint64_t a1, list_core_option_Option_u8 a2)
+{
+    if (a1 < a2.length) {
+        return (core_option_Option_ref_Option_u8){.Some = {core_option_Option_ref_Option_u8_Some, &a2.at[a1]}};
+    } else {
+        return (core_option_Option_ref_Option_u8){.tag = core_option_Option_ref_Option_u8_None};
+    }
+}
+
+/* core::slice::slice+T::get<Option<u8>,u64,ref_Option<u8>> */
+static core_option_Option_ref_Option_u8 core_slice_slice_T_get_Option_u8_u64_ref_Option_u8(list_core_option_Option_u8 a1, uint64_t a2)
+{
+    return core_slice_index_UsizeSliceIndexRefSlice_pick_Option_u8(a2, a1);
+}
+
+/* core::slots::Slots::copy_in<u8> */
+static void core_slots_Slots_copy_in_u8(core_slots_Slots_u8 *a1, uint64_t a2, list_u8 a3)
+{
+    core_ptr_copy_drop_copy_bits_u8((unsigned char *)a3.at, a1->ptr + (size_t)(a2 * 1ull), a3.length);
+    return;
+}
+
+/* core::slots::lends::with_slots<u8,unit,list_u8,unit,unit> */
+static void core_slots_lends_with_slots_u8_unit_list_u8_unit_unit(mut_list_u8 a1, list_u8 a3)
+{
+    (void)core_core_slice_edits_copy_over_FnOnce_call_once_u8((core_slots_Slots_u8){(unsigned char *)a1.at, a1.length}, a3);
+    return;
+}
+
+/* decimal::magnitude */
 static uint64_t decimal_magnitude(uint64_t number)
 {
-    if (s64(number) < s64(0ull)) {
-        return (uint64_t)((uint64_t)~number) + 1ull;
-    } else {
-        return (uint64_t)number;
-    }
+    return core_int_i64_unsigned_abs(number);
 }
 
 /* decimal::put_byte */
@@ -583,45 +947,34 @@ static uint64_t decimal_put_worded(mut_list_u8 text, uint64_t at, list_u8 words,
 /* decimal::put_words */
 static uint64_t decimal_put_words(mut_list_u8 text, uint64_t at, list_u8 words)
 {
-    uint64_t i;
-    i = 0ull;
-    while (i < words.length) {
-        at = decimal_put_byte((mut_list_u8){text.at, text.length}, at, words.at[i]);
-        i = i + 1ull;
-    }
-    return at;
+    uint64_t end;
+    end = at + words.length;
+    core_slice_edits_slice_T_copy_from_slice_u8((mut_list_u8){&text.at[at], end - at}, words);
+    return end;
 }
 
-/* decode::Card::give. Its numbers over the fronts of four lists that have room for them. */
-static void decode_Card_give(decode_Card self, mut_list_u16 minutes, mut_list_u16 ordinates, mut_list_u32 slopes, mut_list_u32 curvatures)
+/* decode::Card::lent. Its lists, as long as it has knots, and the codes of its ends. */
+static knots_Lent decode_Card_lent(const decode_Card *a1)
 {
-    uint64_t n, place;
-    n = self.knots;
-    place = 0ull;
-    while (place < n) {
-        minutes.at[place] = self.minutes.e[place];
-        ordinates.at[place] = self.ordinates.e[place];
-        slopes.at[place] = self.slopes.e[place];
-        curvatures.at[place] = self.curvatures.e[place];
-        place = place + 1ull;
-    }
-    return;
+    uint64_t n;
+    n = a1->knots;
+    return (knots_Lent){(list_u16){a1->minutes.e, n}, (list_u16){a1->ordinates.e, n}, (list_u32){a1->slopes.e, n}, (list_u32){a1->curvatures.e, n}, a1->left, a1->right};
 }
 
 /* decode::Card::none. Of no knots. */
 static decode_Card decode_Card_none(void)
 {
-    array_u16_64 minutes, ordinates;
-    array_u32_64 slopes, curvatures;
+    array_u16_64 v1, v2;
+    array_u32_64 v3, v4;
     for (size_t n_ = 0; n_ < 64; n_++)
-        minutes.e[n_] = 0;
+        v1.e[n_] = 0;
     for (size_t n_ = 0; n_ < 64; n_++)
-        ordinates.e[n_] = 0;
+        v2.e[n_] = 0;
     for (size_t n_ = 0; n_ < 64; n_++)
-        slopes.e[n_] = 0u;
+        v3.e[n_] = 0u;
     for (size_t n_ = 0; n_ < 64; n_++)
-        curvatures.e[n_] = 0u;
-    return (decode_Card){0ull, 0, 0, minutes, ordinates, slopes, curvatures};
+        v4.e[n_] = 0u;
+    return (decode_Card){0ull, 0, 0, v1, v2, v3, v4};
 }
 
 /* decode::Card::of. Of bytes that have a head, no more knots than there is place for, and a record for
@@ -744,29 +1097,22 @@ static jumps_Spans jumps_Spans_none(void)
    of the third's allowance. */
 static jumps_Spans jumps_Spans_of(bool asked, uint64_t square, uint64_t h, gaps_Knot a, gaps_Knot b)
 {
-    uint64_t y, m, c, y1, m1, c1, rise, s, s1, area, v, v1, ahead, behind, leeway, cube, ahead4, behind4;
-    uint64_t leeway4, fourth;
-    jumps_Span third, v36;
-    y = a.ordinate;
-    m = a.slope;
-    c = a.curvature;
-    y1 = b.ordinate;
-    m1 = b.slope;
-    c1 = b.curvature;
-    rise = 4096ull * (y1 - y);
-    s = m * h;
-    s1 = m1 * h;
+    uint64_t rise, s, s1, area, v, v1, ahead, behind, leeway, cube, ahead4, behind4, leeway4, fourth;
+    jumps_Span third, v30;
+    rise = 4096ull * (b.ordinate - a.ordinate);
+    s = a.slope * h;
+    s1 = b.slope * h;
     area = h * h;
-    v = c * area;
-    v1 = c1 * area;
+    v = a.curvature * area;
+    v1 = b.curvature * area;
     ahead = ((20ull * rise) - ((12ull * s) + (8ull * s1))) - ((3ull * v) - v1);
     behind = (((12ull * s1) + (8ull * s)) - (20ull * rise)) - ((3ull * v1) - v);
     leeway = (square + (4ull * h)) * h;
     cube = jumps_cleared((jumps_Order){.tag = jumps_Order_Third}, h);
     third = (jumps_Span){ahead, behind, cube, leeway};
     if (!asked) {
-        v36 = jumps_Span_none();
-        return (jumps_Spans){third, v36};
+        v30 = jumps_Span_none();
+        return (jumps_Spans){third, v30};
     }
     ahead4 = (((16ull * s) + (14ull * s1)) + ((3ull * v) - (2ull * v1))) - (30ull * rise);
     behind4 = (((16ull * s1) + (14ull * s)) - ((3ull * v1) - (2ull * v))) - (30ull * rise);
@@ -803,14 +1149,26 @@ static bool jumps_meet(jumps_Span left, jumps_Span right)
     return jumps_over(v3, v4);
 }
 
-/* jumps::over. Whether a jump, of either sign, is over what is allowed. The sign is not asked first: no
-   processor foresees it, and a sound card takes neither branch. */
+/* jumps::over. Whether a jump, of either sign, is over what is allowed. */
 static bool jumps_over(uint64_t jump, uint64_t allowed)
 {
-    if (s64(allowed) < s64(jump)) {
-        return true;
-    }
-    return s64(allowed) < s64(0ull - jump);
+    uint64_t v3;
+    v3 = core_int_i64_abs(jump);
+    return s64(allowed) < s64(v3);
+}
+
+/* knots::Destruct++none::drop<each+Self<list_u16,list_u16>> */
+static void knots_Destruct_none_drop_each_Self_list_u16_list_u16(knots_fn_stand_each_Self_list_u16_list_u16 a1)
+{
+    (void)a1;
+    return;
+}
+
+/* knots::Destruct++none::drop<each+Self<list_u16,list_u32,list_u32>> */
+static void knots_Destruct_none_drop_each_Self_list_u16_list_u32_list_u32(knots_fn_in_range_each_Self_list_u16_list_u32_list_u32 a1)
+{
+    (void)a1;
+    return;
 }
 
 /* knots::Kind::quintic */
@@ -828,41 +1186,48 @@ static knots_Kind knots_Kind_sloped(void)
 /* knots::beyond. Beyond a limit, on either side. */
 static bool knots_beyond(uint32_t limit, uint32_t z)
 {
-    if (s32(z) < s32(0u)) {
-        return s32(z) < s32(0u - limit);
+    bool v3;
+    v3 = s32(z) < s32(0u - limit);
+    if (!v3) {
+        v3 = s32(limit) < s32(z);
     }
-    return s32(limit) < s32(z);
+    return v3;
 }
 
 /* knots::codes. 15. */
-static answer_Judged knots_codes(knots_Kind kind, uint16_t left, uint16_t right)
+static core_result_Result_unit_Refusal knots_codes(knots_Kind kind, uint16_t left, uint16_t right)
 {
-    uint16_t last;
-    last = kind.code;
-    if (last < left) {
-        return (answer_Judged){.Refused = {answer_Judged_Refused, 15u, 0u}};
+    core_ops_ControlFlow_ErrResidual_Refusal_unit v6;
+    core_result_Result_unit_Refusal v7;
+    v7 = answer_refuse((answer_Reason){.tag = answer_Reason_UnknownCode}, 0u, kind.code < left);
+    v6 = core_result_ResultTry_branch_unit_Refusal(v7);
+    if (v6.tag != core_ops_ControlFlow_ErrResidual_Refusal_unit_Continue) {
+        return core_result_ResultFromResidualErrResidual_from_residual_unit_Refusal_Refusal(v6.Break.f0);
     }
-    return answer_refuse(15u, 1u, last < right);
+    return answer_refuse((answer_Reason){.tag = answer_Reason_UnknownCode}, 1u, kind.code < right);
 }
 
 /* knots::counted. 1, 2. */
-static answer_Judged knots_counted(uint64_t n)
+static core_result_Result_unit_Refusal knots_counted(uint64_t n)
 {
-    if (n < 3ull) {
-        return (answer_Judged){.Refused = {answer_Judged_Refused, 1u, 0u}};
+    core_ops_ControlFlow_ErrResidual_Refusal_unit v4;
+    core_result_Result_unit_Refusal v5;
+    v5 = answer_refuse((answer_Reason){.tag = answer_Reason_FewKnots}, 0u, n < 3ull);
+    v4 = core_result_ResultTry_branch_unit_Refusal(v5);
+    if (v4.tag != core_ops_ControlFlow_ErrResidual_Refusal_unit_Continue) {
+        return core_result_ResultFromResidualErrResidual_from_residual_unit_Refusal_Refusal(v4.Break.f0);
     }
-    return answer_refuse(2u, 0u, 64ull < n);
+    return answer_refuse((answer_Reason){.tag = answer_Reason_ManyKnots}, 0u, 64ull < n);
 }
 
 /* knots::curvature_beyond */
 static bool knots_curvature_beyond(list_u16 xs, list_u32 cs, uint64_t i)
 {
-    uint32_t c, v7;
-    uint16_t v8;
-    c = cs.at[i];
-    v8 = minutes_wider_gap(xs, i);
-    v7 = knots_curvature_limit(v8);
-    return knots_beyond(v7, c);
+    uint32_t v4;
+    uint16_t v5;
+    v5 = minutes_wider_gap(xs, i);
+    v4 = knots_curvature_limit(v5);
+    return knots_beyond(v4, cs.at[i]);
 }
 
 /* knots::curvature_limit. By the wider of the gaps beside the knot. */
@@ -872,98 +1237,87 @@ static uint32_t knots_curvature_limit(uint16_t gap)
     return 1048576u;
 }
 
+/* knots::fn::in_range::each */
+static core_result_Result_unit_Refusal knots_fn_in_range_each(const knots_fn_in_range_each_Self_list_u16_list_u32_list_u32 *a1, uint64_t a2)
+{
+    return knots_in_range_at(a1->f0, a1->f1, a1->f2, a2);
+}
+
+/* knots::fn::in_range::each+Fn::call */
+static core_result_Result_unit_Refusal knots_fn_in_range_each_Fn_call(const knots_fn_in_range_each_Self_list_u16_list_u32_list_u32 *a1, uint64_t a2)
+{
+    return knots_fn_in_range_each(a1, a2);
+}
+
+/* knots::fn::stand::each */
+static core_result_Result_unit_Refusal knots_fn_stand_each(const knots_fn_stand_each_Self_list_u16_list_u16 *a1, uint64_t a2)
+{
+    return knots_stands_at(a1->f0, a1->f1, a2);
+}
+
+/* knots::fn::stand::each+Fn::call */
+static core_result_Result_unit_Refusal knots_fn_stand_each_Fn_call(const knots_fn_stand_each_Self_list_u16_list_u16 *a1, uint64_t a2)
+{
+    return knots_fn_stand_each(a1, a2);
+}
+
 /* knots::in_range. Knot by knot, whatever the ordinates and the codes. */
-static answer_Judged knots_in_range(list_u16 xs, list_u32 ms, list_u32 cs)
+static core_result_Result_unit_Refusal knots_in_range(list_u16 xs, list_u32 ms, list_u32 cs)
 {
-    uint64_t i;
-    uint32_t number;
-    i = 0ull;
-    while (i < xs.length) {
-        number = knots_in_range_at(xs, ms, cs, i);
-        if (0u < number) {
-            return (answer_Judged){.Refused = {answer_Judged_Refused, number, (uint32_t)i}};
-        }
-        i = i + 1ull;
-    }
-    return (answer_Judged){.tag = answer_Judged_Accepted};
+    return answer_each_each_Self_list_u16_list_u32_list_u32(xs.length, (knots_fn_in_range_each_Self_list_u16_list_u32_list_u32){(list_u16){xs.at, xs.length}, (list_u32){ms.at, ms.length}, (list_u32){cs.at, cs.length}});
 }
 
-/* knots::in_range_at. The number at a knot; 0 where both are in range. */
-static uint32_t knots_in_range_at(list_u16 xs, list_u32 ms, list_u32 cs, uint64_t i)
+/* knots::in_range_at. At a knot. */
+static core_result_Result_unit_Refusal knots_in_range_at(list_u16 xs, list_u32 ms, list_u32 cs, uint64_t i)
 {
-    bool v5, v6;
-    v5 = knots_slope_beyond(ms, i);
-    if (v5) {
-        return 9u;
+    bool beyond, v6;
+    v6 = knots_slope_beyond(ms, i);
+    if (!v6) {
+        v6 = knots_curvature_beyond(xs, cs, i);
     }
-    v6 = knots_curvature_beyond(xs, cs, i);
-    if (v6) {
-        return 9u;
-    }
-    return 0u;
-}
-
-/* knots::room. 26. */
-static answer_Judged knots_room(uint64_t needed, uint64_t lent)
-{
-    return answer_refuse(26u, 0u, lent < needed);
-}
-
-/* knots::same_lengths. 3. */
-static answer_Judged knots_same_lengths(uint64_t n, uint64_t ys, uint64_t ms, uint64_t cs)
-{
-    if (ys == n) {
-        if (ms == n) {
-            return answer_refuse(3u, 0u, cs != n);
-        }
-    }
-    return (answer_Judged){.Refused = {answer_Judged_Refused, 3u, 0u}};
+    beyond = v6;
+    return answer_refuse((answer_Reason){.tag = answer_Reason_OutOfRange}, (uint32_t)i, beyond);
 }
 
 /* knots::slope_beyond */
 static bool knots_slope_beyond(list_u32 ms, uint64_t i)
 {
-    uint32_t m;
-    m = ms.at[i];
-    return knots_beyond(1048576u, m);
+    return knots_beyond(1048576u, ms.at[i]);
 }
 
 /* knots::stand. Knot by knot. */
-static answer_Judged knots_stand(list_u16 xs, list_u16 ys)
+static core_result_Result_unit_Refusal knots_stand(list_u16 xs, list_u16 ys)
 {
-    uint64_t i;
-    uint32_t number;
-    i = 0ull;
-    while (i < xs.length) {
-        number = knots_stands_at(xs, ys, i);
-        if (0u < number) {
-            return (answer_Judged){.Refused = {answer_Judged_Refused, number, (uint32_t)i}};
-        }
-        i = i + 1ull;
-    }
-    return (answer_Judged){.tag = answer_Judged_Accepted};
+    return answer_each_each_Self_list_u16_list_u16(xs.length, (knots_fn_stand_each_Self_list_u16_list_u16){(list_u16){xs.at, xs.length}, (list_u16){ys.at, ys.length}});
 }
 
-/* knots::stands_at. The number at a knot; 0 where it stands. */
-static uint32_t knots_stands_at(list_u16 xs, list_u16 ys, uint64_t i)
+/* knots::stands_at. At a knot. */
+static core_result_Result_unit_Refusal knots_stands_at(list_u16 xs, list_u16 ys, uint64_t i)
 {
-    uint16_t y, v17;
-    bool v18;
-    y = ys.at[i];
-    if (0ull < i) {
-        if (xs.at[i] <= (xs.at[i - 1ull])) {
-            return 4u;
-        }
+    uint32_t place;
+    bool falls, v11, v12;
+    uint16_t v8;
+    core_ops_ControlFlow_ErrResidual_Refusal_unit v20, v23;
+    core_result_Result_unit_Refusal v21;
+    place = (uint32_t)i;
+    v12 = 0ull < i;
+    if (v12) {
+        v12 = xs.at[i] <= (xs.at[i - 1ull]);
     }
-    v17 = minutes_left_gap(xs, i);
-    if (60 < v17) {
-        return 5u;
+    falls = v12;
+    v21 = answer_refuse((answer_Reason){.tag = answer_Reason_NotRising}, place, falls);
+    v20 = core_result_ResultTry_branch_unit_Refusal(v21);
+    if (v20.tag != core_ops_ControlFlow_ErrResidual_Refusal_unit_Continue) {
+        return core_result_ResultFromResidualErrResidual_from_residual_unit_Refusal_Refusal(v20.Break.f0);
     }
-    v18 = knots_beyond(20000u, (uint32_t)s16(y));
-    if (v18) {
-        return 6u;
+    v8 = minutes_left_gap(xs, i);
+    v21 = answer_refuse((answer_Reason){.tag = answer_Reason_WideGap}, place, 60 < v8);
+    v23 = core_result_ResultTry_branch_unit_Refusal(v21);
+    if (v23.tag != core_ops_ControlFlow_ErrResidual_Refusal_unit_Continue) {
+        return core_result_ResultFromResidualErrResidual_from_residual_unit_Refusal_Refusal(v23.Break.f0);
     }
-    return 0u;
+    v11 = knots_beyond(20000u, (uint32_t)s16(ys.at[i]));
+    return answer_refuse((answer_Reason){.tag = answer_Reason_FarOrdinate}, place, v11);
 }
 
 /* libc::read */
@@ -1013,12 +1367,13 @@ static uint64_t listing_counted_line(mut_list_u8 text, uint64_t at, uint16_t x, 
 }
 
 /* listing::faults_at */
-static uint8_t listing_faults_at(list_u8 faults, uint64_t i)
+static core_option_Option_u8 listing_faults_at(list_core_option_Option_u8 faults, uint64_t i)
 {
-    if (i < faults.length) {
-        return faults.at[i];
-    }
-    return 255;
+    core_option_Option_Option_u8 v3;
+    core_option_Option_ref_Option_u8 v4;
+    v4 = core_slice_slice_T_get_Option_u8_u64_ref_Option_u8(faults, i);
+    v3 = core_option_more_Option_ref_T_copied_Option_u8(v4);
+    return core_option_Option_Option_T_flatten_u8(v3);
 }
 
 /* listing::four_fields. A knot's four numbers, and a byte behind the last. */
@@ -1038,31 +1393,32 @@ static uint64_t listing_knot_line(mut_list_u8 text, uint64_t at, uint16_t x, uin
 }
 
 /* listing::knot_lines */
-static uint64_t listing_knot_lines(mut_list_u8 text, list_u16 minutes, list_u16 ordinates, list_u32 slopes, list_u32 curvatures, list_u8 faults)
+static uint64_t listing_knot_lines(mut_list_u8 text, list_u16 minutes, list_u16 ordinates, list_u32 slopes, list_u32 curvatures, list_core_option_Option_u8 faults)
 {
-    uint64_t next, i;
+    uint64_t next, i, v9;
     mut_list_u8 v12;
-    uint16_t v14;
-    uint32_t v18, v21, v24;
-    uint8_t v25;
+    uint16_t v15;
+    uint32_t v19, v22, v25;
+    core_option_Option_u8 v26;
     next = 0ull;
     i = 0ull;
-    while (i < minutes.length) {
+    v9 = minutes.length;
+    while (i < v9) {
         v12 = (mut_list_u8){text.at, text.length};
-        v14 = minutes.at[i];
-        v18 = (uint32_t)s16(ordinates.at[i]);
-        v21 = slopes.at[i];
-        v24 = curvatures.at[i];
-        v25 = listing_faults_at(faults, i);
-        next = listing_listed_line(v12, next, v14, v18, v21, v24, v25);
+        v15 = minutes.at[i];
+        v19 = (uint32_t)s16(ordinates.at[i]);
+        v22 = slopes.at[i];
+        v25 = curvatures.at[i];
+        v26 = listing_faults_at(faults, i);
+        next = listing_listed_line(v12, next, v15, v19, v22, v25, v26);
         i = i + 1ull;
     }
     return next;
 }
 
-/* listing::list. The whole listing at the front of a buffer, and its length: the line of a knot has at
-   most 60 bytes, the last line at most 33. */
-static uint64_t listing_list(uint32_t number, uint32_t place, list_u16 minutes, list_u16 ordinates, list_u32 slopes, list_u32 curvatures, list_u8 faults, mut_list_u8 text)
+/* listing::list. The whole listing at the front of a buffer, and its length, by the number and place that
+   a struct has which C receives: the line of a knot has at most 60 bytes, the last line at most 33. */
+static uint64_t listing_list(uint32_t number, uint32_t place, list_u16 minutes, list_u16 ordinates, list_u32 slopes, list_u32 curvatures, list_core_option_Option_u8 faults, mut_list_u8 text)
 {
     uint64_t next;
     if (number != 0u) {
@@ -1072,13 +1428,16 @@ static uint64_t listing_list(uint32_t number, uint32_t place, list_u16 minutes, 
     return listing_accepted_line((mut_list_u8){text.at, text.length}, next, (uint32_t)minutes.length);
 }
 
-/* listing::listed_line. A log's line has its faults behind the curvature. */
-static uint64_t listing_listed_line(mut_list_u8 text, uint64_t at, uint16_t x, uint32_t y, uint32_t m, uint32_t c, uint8_t faults)
+/* listing::listed_line. A log's line has its faults behind the curvature, and no other knot's has any. */
+static uint64_t listing_listed_line(mut_list_u8 text, uint64_t at, uint16_t x, uint32_t y, uint32_t m, uint32_t c, core_option_Option_u8 faults)
 {
-    if (faults == 255) {
+    uint8_t count;
+    if (faults.tag == core_option_Option_u8_None) {
         return listing_knot_line((mut_list_u8){text.at, text.length}, at, x, y, m, c);
+    } else {
+        count = faults.Some.f0;
+        return listing_counted_line((mut_list_u8){text.at, text.length}, at, x, y, m, c, (uint32_t)count);
     }
-    return listing_counted_line((mut_list_u8){text.at, text.length}, at, x, y, m, c, (uint32_t)faults);
 }
 
 /* listing::refused_line. "or one line `refused NUMBER at PLACE`". */
@@ -1090,21 +1449,66 @@ static uint64_t listing_refused_line(mut_list_u8 text, uint64_t at, uint32_t num
     return decimal_put_byte((mut_list_u8){text.at, text.length}, after_place, 10);
 }
 
+/* lists::Lists::knot */
+static gaps_Knot lists_Lists_knot(lists_Lists a1, uint64_t a2)
+{
+    return lists_knot_at(a1.ordinates, a1.slopes, a1.curvatures, a2);
+}
+
+/* lists::Lists::smooth */
+static core_result_Result_unit_Refusal lists_Lists_smooth(lists_Lists a1, knots_Kind a2, uint16_t a3, uint16_t a4)
+{
+    uint64_t v5, v7;
+    jumps_Spans v6, v9;
+    uint16_t v8;
+    core_ops_ControlFlow_ErrResidual_Refusal_unit v14;
+    core_result_Result_unit_Refusal v15;
+    v5 = a1.minutes.length;
+    v6 = jumps_Spans_none();
+    v7 = 0ull;
+    while (v7 < v5) {
+        v8 = lists_code_at(a3, a4, v5, v7);
+        v9 = lists_Lists_spans(a1, a2, v7);
+        v15 = lists_rough_at(a2, v8, v6, v9, (uint32_t)v7);
+        v14 = core_result_ResultTry_branch_unit_Refusal(v15);
+        if (v14.tag != core_ops_ControlFlow_ErrResidual_Refusal_unit_Continue) {
+            return core_result_ResultFromResidualErrResidual_from_residual_unit_Refusal_Refusal(v14.Break.f0);
+        }
+        v6 = v9;
+        v7 = v7 + 1ull;
+    }
+    return (core_result_Result_unit_Refusal){.tag = core_result_Result_unit_Refusal_Ok};
+}
+
+/* lists::Lists::spans */
+static jumps_Spans lists_Lists_spans(lists_Lists a1, knots_Kind a2, uint64_t a3)
+{
+    gaps_Knot v4, v12;
+    uint64_t v7;
+    uint16_t v9;
+    v7 = minutes_on(a1.minutes.length, a3);
+    v4 = lists_Lists_knot(a1, v7);
+    v9 = minutes_right_gap(a1.minutes, a3);
+    v12 = lists_Lists_knot(a1, a3);
+    return jumps_Spans_of(a2.fourth, (uint64_t)a2.squares, (uint64_t)v9, v12, v4);
+}
+
 /* lists::asks. "At a free end both; with code 2 the fourth only; with code 1 nothing". */
 static bool lists_asks(knots_Kind kind, jumps_Order order, uint16_t code)
 {
-    bool fourth;
-    fourth = kind.fourth;
+    bool v5, v6;
     if (order.tag == jumps_Order_Third) {
         return code == 0;
     } else {
-        if (code == 0) {
-            return fourth;
+        v5 = kind.fourth;
+        if (v5) {
+            v6 = code == 0;
+            if (!v6) {
+                v6 = code == 2;
+            }
+            v5 = v6;
         }
-        if (code == 2) {
-            return fourth;
-        }
-        return false;
+        return v5;
     }
 }
 
@@ -1113,11 +1517,13 @@ static uint16_t lists_code_at(uint16_t left, uint16_t right, uint64_t n, uint64_
 {
     if (i == 0ull) {
         return left;
+    } else {
+        if (i == (n - 1ull)) {
+            return right;
+        } else {
+            return 0;
+        }
     }
-    if (i == (n - 1ull)) {
-        return right;
-    }
-    return 0;
 }
 
 /* lists::jumps_at. Whether a derivative jumps at a knot between two gaps where its code asks for it. */
@@ -1126,106 +1532,53 @@ static bool lists_jumps_at(knots_Kind kind, jumps_Order order, uint16_t code, ju
     bool v6;
     v6 = lists_asks(kind, order, code);
     if (v6) {
-        return jumps_meet(before, after);
+        v6 = jumps_meet(before, after);
     }
-    return false;
+    return v6;
 }
 
 /* lists::knot_at. A knot's numbers, as wide as the curve's arithmetic takes them. */
 static gaps_Knot lists_knot_at(list_u16 ys, list_u32 ms, list_u32 cs, uint64_t i)
 {
-    uint16_t y;
-    uint32_t m, c;
-    y = ys.at[i];
-    m = ms.at[i];
-    c = cs.at[i];
-    return (gaps_Knot){(uint64_t)s16(y), (uint64_t)s32(m), (uint64_t)s32(c)};
+    return (gaps_Knot){(uint64_t)s16(ys.at[i]), (uint64_t)s32(ms.at[i]), (uint64_t)s32(cs.at[i])};
 }
 
 /* lists::numbers_sound. "9; 10", of lists that 4, 5 and 6 accept. */
-static answer_Judged lists_numbers_sound(knots_Kind kind, uint16_t left, uint16_t right, list_u16 xs, list_u16 ys, list_u32 ms, list_u32 cs)
+static core_result_Result_unit_Refusal lists_numbers_sound(knots_Kind kind, knots_Lent card)
 {
-    answer_Judged ranged;
-    uint32_t number, place;
-    ranged = knots_in_range(xs, ms, cs);
-    if (ranged.tag == answer_Judged_Accepted) {
-        return lists_smooth(kind, left, right, xs, ys, ms, cs);
-    } else {
-        number = ranged.Refused.f0;
-        place = ranged.Refused.f1;
-        return (answer_Judged){.Refused = {answer_Judged_Refused, number, place}};
+    core_ops_ControlFlow_ErrResidual_Refusal_unit v6;
+    core_result_Result_unit_Refusal v7;
+    v7 = knots_in_range(card.minutes, card.slopes, card.curvatures);
+    v6 = core_result_ResultTry_branch_unit_Refusal(v7);
+    if (v6.tag != core_ops_ControlFlow_ErrResidual_Refusal_unit_Continue) {
+        return core_result_ResultFromResidualErrResidual_from_residual_unit_Refusal_Refusal(v6.Break.f0);
     }
+    return lists_Lists_smooth((lists_Lists){card.minutes, card.ordinates, card.slopes, card.curvatures}, kind, card.left, card.right);
 }
 
-/* lists::rough_at. The number at a knot between two gaps; 0 where no derivative jumps. */
-static uint32_t lists_rough_at(knots_Kind kind, uint16_t code, jumps_Spans before, jumps_Spans after)
+/* lists::rough_at. At a knot between two gaps. */
+static core_result_Result_unit_Refusal lists_rough_at(knots_Kind kind, uint16_t code, jumps_Spans before, jumps_Spans after, uint32_t place)
 {
-    bool v9, v11;
-    v9 = lists_jumps_at(kind, (jumps_Order){.tag = jumps_Order_Third}, code, before.third, after.third);
-    if (v9) {
-        return 10u;
+    bool jumps, v7;
+    v7 = lists_jumps_at(kind, (jumps_Order){.tag = jumps_Order_Third}, code, before.third, after.third);
+    if (!v7) {
+        v7 = lists_jumps_at(kind, (jumps_Order){.tag = jumps_Order_Fourth}, code, before.fourth, after.fourth);
     }
-    v11 = lists_jumps_at(kind, (jumps_Order){.tag = jumps_Order_Fourth}, code, before.fourth, after.fourth);
-    if (v11) {
-        return 10u;
-    }
-    return 0u;
-}
-
-/* lists::smooth. Knot by knot, each gap worked out once. */
-static answer_Judged lists_smooth(knots_Kind kind, uint16_t left, uint16_t right, list_u16 xs, list_u16 ys, list_u32 ms, list_u32 cs)
-{
-    jumps_Spans before, after;
-    uint64_t i;
-    uint16_t code;
-    uint32_t number;
-    before = jumps_Spans_none();
-    i = 0ull;
-    while (i < xs.length) {
-        code = lists_code_at(left, right, xs.length, i);
-        after = lists_spans_at(kind, xs, ys, ms, cs, i);
-        number = lists_rough_at(kind, code, before, after);
-        if (0u < number) {
-            return (answer_Judged){.Refused = {answer_Judged_Refused, number, (uint32_t)i}};
-        }
-        before = after;
-        i = i + 1ull;
-    }
-    return (answer_Judged){.tag = answer_Judged_Accepted};
+    jumps = v7;
+    return answer_refuse((answer_Reason){.tag = answer_Reason_Jump}, place, jumps);
 }
 
 /* lists::sound. "Per knot 4, 5, 6; 9; 10." */
-static answer_Judged lists_sound(knots_Kind kind, uint16_t left, uint16_t right, list_u16 xs, list_u16 ys, list_u32 ms, list_u32 cs)
+static core_result_Result_unit_Refusal lists_sound(knots_Kind kind, knots_Lent card)
 {
-    answer_Judged stood;
-    uint32_t number, place;
-    stood = knots_stand(xs, ys);
-    if (stood.tag == answer_Judged_Accepted) {
-        return lists_numbers_sound(kind, left, right, xs, ys, ms, cs);
-    } else {
-        number = stood.Refused.f0;
-        place = stood.Refused.f1;
-        return (answer_Judged){.Refused = {answer_Judged_Refused, number, place}};
+    core_ops_ControlFlow_ErrResidual_Refusal_unit v5;
+    core_result_Result_unit_Refusal v6;
+    v6 = knots_stand(card.minutes, card.ordinates);
+    v5 = core_result_ResultTry_branch_unit_Refusal(v6);
+    if (v5.tag != core_ops_ControlFlow_ErrResidual_Refusal_unit_Continue) {
+        return core_result_ResultFromResidualErrResidual_from_residual_unit_Refusal_Refusal(v5.Break.f0);
     }
-}
-
-/* lists::spans_at. What the gap on the right of a knot gives to the tests at both of its knots; at the
-   last knot there is none. The fourth's is left out where the kind does not ask for it. */
-static jumps_Spans lists_spans_at(knots_Kind kind, list_u16 xs, list_u16 ys, list_u32 ms, list_u32 cs, uint64_t i)
-{
-    gaps_Knot here, after;
-    uint64_t h, v12;
-    bool fourth;
-    uint8_t squares;
-    uint16_t v14;
-    here = lists_knot_at(ys, ms, cs, i);
-    v12 = minutes_on(xs.length, i);
-    after = lists_knot_at(ys, ms, cs, v12);
-    v14 = minutes_right_gap(xs, i);
-    h = (uint64_t)v14;
-    fourth = kind.fourth;
-    squares = kind.squares;
-    return jumps_Spans_of(fourth, (uint64_t)squares, h, here, after);
+    return lists_numbers_sound(kind, card);
 }
 
 /* little_endian::read_i16 */
@@ -1233,75 +1586,32 @@ static uint16_t little_endian_read_i16(list_u8 list, uint64_t at)
 {
     uint16_t v3;
     v3 = little_endian_read_u16(list, at);
-    return little_endian_signed16(v3);
+    return core_int_u16_cast_signed(v3);
 }
 
 /* little_endian::read_i32 */
 static uint32_t little_endian_read_i32(list_u8 list, uint64_t at)
 {
-    uint32_t v3;
-    v3 = little_endian_read_u32(list, at);
-    return little_endian_signed32(v3);
+    return core_int_bits_i32_from_le_bytes((array_u8_4){{list.at[at], list.at[at + 1ull], list.at[at + 2ull], list.at[at + 3ull]}});
 }
 
-/* little_endian::read_u16 */
+/* little_endian::read_u16. One function for each type: a trait over them would repeat in each impl the
+   line that its function is. */
 static uint16_t little_endian_read_u16(list_u8 list, uint64_t at)
 {
-    uint16_t low, high;
-    low = (uint16_t)list.at[at];
-    high = (uint16_t)(list.at[at + 1ull]);
-    return (uint16_t)((uint32_t)low + (uint16_t)((uint32_t)high * 256));
-}
-
-/* little_endian::read_u32 */
-static uint32_t little_endian_read_u32(list_u8 list, uint64_t at)
-{
-    uint32_t low, high;
-    uint16_t v5;
-    v5 = little_endian_read_u16(list, at);
-    low = (uint32_t)v5;
-    v5 = little_endian_read_u16(list, at + 2ull);
-    high = (uint32_t)v5;
-    return low + (high * 65536u);
-}
-
-/* little_endian::signed16. The signed number of given bits, and the bits of a signed number. A cast that
-   may lose the sign is refused, so a negative number goes by its complement. */
-static uint16_t little_endian_signed16(uint16_t bits)
-{
-    if (bits < 32768) {
-        return (uint16_t)bits;
-    } else {
-        return (uint16_t)~(uint16_t)(uint16_t)((uint32_t)65535 - bits);
-    }
-}
-
-/* little_endian::signed32 */
-static uint32_t little_endian_signed32(uint32_t bits)
-{
-    if (bits < 2147483648u) {
-        return (uint32_t)bits;
-    } else {
-        return (uint32_t)~(uint32_t)(4294967295u - bits);
-    }
+    return core_int_u16_from_le_bytes((array_u8_2){{list.at[at], list.at[at + 1ull]}});
 }
 
 /* minutes::back. The place before; at the first knot its own. */
 static uint64_t minutes_back(uint64_t i)
 {
-    if (i == 0ull) {
-        return 0ull;
-    }
-    return i - 1ull;
+    return core_int_usize_saturating_sub(i, 1ull);
 }
 
 /* minutes::gap. From one minute to another; 0 where it is not after. */
 static uint16_t minutes_gap(uint16_t from, uint16_t to)
 {
-    if (to < from) {
-        return 0;
-    }
-    return (uint16_t)((uint32_t)to - from);
+    return core_int_u16_saturating_sub(to, from);
 }
 
 /* minutes::left_gap. The gap on the left of a knot; 0 at the first. */
@@ -1315,10 +1625,7 @@ static uint16_t minutes_left_gap(list_u16 xs, uint64_t i)
 /* minutes::on. The place after, of n; at the last knot its own. */
 static uint64_t minutes_on(uint64_t n, uint64_t i)
 {
-    if (i == (n - 1ull)) {
-        return i;
-    }
-    return i + 1ull;
+    return core_int_usize_min(i + 1ull, n - 1ull);
 }
 
 /* minutes::right_gap. The gap on the right of a knot; 0 at the last. */
@@ -1332,13 +1639,10 @@ static uint16_t minutes_right_gap(list_u16 xs, uint64_t i)
 /* minutes::wider_gap. The wider of the gaps beside a knot. */
 static uint16_t minutes_wider_gap(list_u16 xs, uint64_t i)
 {
-    uint16_t left, right;
-    left = minutes_left_gap(xs, i);
-    right = minutes_right_gap(xs, i);
-    if (left < right) {
-        return right;
-    }
-    return left;
+    uint16_t v3, v4;
+    v3 = minutes_left_gap(xs, i);
+    v4 = minutes_right_gap(xs, i);
+    return core_int_u16_max(v3, v4);
 }
 
 /* opened::Opened::by_head. The head says what kind of card it is. */
@@ -1352,43 +1656,41 @@ static opened_Opened opened_Opened_by_head(list_u8 card)
 /* opened::Opened::of. As a card of a kind, with that kind's head. */
 static opened_Opened opened_Opened_of(knots_Kind kind, list_u8 card)
 {
-    uint32_t number, place;
-    decode_Card held, v9;
-    answer_Judged v6, v10;
-    v6 = opened_shaped(kind, card);
-    if (v6.tag == answer_Judged_Refused) {
-        number = v6.Refused.f0;
-        place = v6.Refused.f1;
-        v9 = decode_Card_none();
-        return (opened_Opened){(answer_Judged){.Refused = {answer_Judged_Refused, number, place}}, kind, v9};
+    core_result_Result_unit_Refusal v5, v10;
+    decode_Card v8, v9;
+    v5 = opened_shaped(kind, card);
+    if (v5.tag == core_result_Result_unit_Refusal_Err) {
+        v8 = decode_Card_none();
+        return (opened_Opened){(core_result_Result_unit_Refusal){.Err = {core_result_Result_unit_Refusal_Err, v5.Err.f0}}, kind, v8};
     } else {
-        held = decode_Card_of(card);
-        v10 = opened_sound(kind, held);
-        return (opened_Opened){v10, kind, held};
+        v9 = decode_Card_of(card);
+        v10 = opened_sound(kind, &v9);
+        return (opened_Opened){v10, kind, v9};
     }
 }
 
 /* opened::behind_head. 1, 2; 15; the other records 14. */
-static answer_Judged opened_behind_head(knots_Kind kind, list_u8 card)
+static core_result_Result_unit_Refusal opened_behind_head(knots_Kind kind, list_u8 card)
 {
     uint64_t n;
-    uint16_t left, right, v8;
-    uint32_t number, place;
-    answer_Judged v9, v10, v11;
-    v8 = little_endian_read_u16(card, 4ull);
-    n = (uint64_t)v8;
+    uint16_t left, right, v10;
+    core_ops_ControlFlow_ErrResidual_Refusal_unit v11, v13;
+    core_result_Result_unit_Refusal v12;
+    v10 = little_endian_read_u16(card, 4ull);
+    n = (uint64_t)v10;
     left = little_endian_read_u16(card, 6ull);
     right = little_endian_read_u16(card, 8ull);
-    v10 = knots_counted(n);
-    v11 = knots_codes(kind, left, right);
-    v9 = answer_first(v10, v11);
-    if (v9.tag == answer_Judged_Refused) {
-        number = v9.Refused.f0;
-        place = v9.Refused.f1;
-        return (answer_Judged){.Refused = {answer_Judged_Refused, number, place}};
-    } else {
-        return card_bytes_records_due(card, n);
+    v12 = knots_counted(n);
+    v11 = core_result_ResultTry_branch_unit_Refusal(v12);
+    if (v11.tag != core_ops_ControlFlow_ErrResidual_Refusal_unit_Continue) {
+        return core_result_ResultFromResidualErrResidual_from_residual_unit_Refusal_Refusal(v11.Break.f0);
     }
+    v12 = knots_codes(kind, left, right);
+    v13 = core_result_ResultTry_branch_unit_Refusal(v12);
+    if (v13.tag != core_ops_ControlFlow_ErrResidual_Refusal_unit_Continue) {
+        return core_result_ResultFromResidualErrResidual_from_residual_unit_Refusal_Refusal(v13.Break.f0);
+    }
+    return card_bytes_records_due(card, n);
 }
 
 /* opened::kind_by. Order 8's kind where its head stands; else document 01's, whose head is then due. */
@@ -1405,70 +1707,46 @@ static knots_Kind opened_kind_by(list_u8 card)
 }
 
 /* opened::shaped. Head 14 before them. */
-static answer_Judged opened_shaped(knots_Kind kind, list_u8 card)
+static core_result_Result_unit_Refusal opened_shaped(knots_Kind kind, list_u8 card)
 {
-    uint32_t number, place;
-    answer_Judged v5;
-    v5 = card_bytes_head_due(card, kind.head);
-    if (v5.tag == answer_Judged_Refused) {
-        number = v5.Refused.f0;
-        place = v5.Refused.f1;
-        return (answer_Judged){.Refused = {answer_Judged_Refused, number, place}};
-    } else {
-        return opened_behind_head(kind, card);
+    core_ops_ControlFlow_ErrResidual_Refusal_unit v5;
+    core_result_Result_unit_Refusal v6;
+    v6 = card_bytes_head_due(card, kind.head);
+    v5 = core_result_ResultTry_branch_unit_Refusal(v6);
+    if (v5.tag != core_ops_ControlFlow_ErrResidual_Refusal_unit_Continue) {
+        return core_result_ResultFromResidualErrResidual_from_residual_unit_Refusal_Refusal(v5.Break.f0);
     }
+    return opened_behind_head(kind, card);
 }
 
 /* opened::sound. Per knot 4, 5, 6; 9; 10, of a card that was decoded. */
-static answer_Judged opened_sound(knots_Kind kind, decode_Card card)
+static core_result_Result_unit_Refusal opened_sound(knots_Kind kind, const decode_Card *card)
 {
-    uint64_t n;
-    n = card.knots;
-    return lists_sound(kind, card.left, card.right, (list_u16){card.minutes.e, n}, (list_u16){card.ordinates.e, n}, (list_u32){card.slopes.e, n}, (list_u32){card.curvatures.e, n});
-}
-
-/* record::Cursor::new. "constructor functions of the card and cursor types" */
-static record_Cursor record_Cursor_new(uint64_t at)
-{
-    return (record_Cursor){at};
-}
-
-/* record::Cursor::read. The offset may be any, and so may the bytes: 14 stands for all that is no such
-   record. */
-static record_Found record_Cursor_read(record_Cursor self, list_u8 list, uint16_t kind, uint16_t length)
-{
-    uint64_t at, start;
-    bool v7;
-    record_Cursor v9;
-    at = self.at;
-    v7 = record_is_at(list, at, kind, length);
-    if (v7) {
-        start = at + 4ull;
-        v9 = record_Cursor_new(start + (uint64_t)length);
-        return (record_Found){.Body = {record_Found_Body, start, v9}};
-    } else {
-        return (record_Found){.Bad = {record_Found_Bad, at}};
-    }
+    knots_Lent v3;
+    v3 = decode_Card_lent(card);
+    return lists_sound(kind, v3);
 }
 
 /* record::is_at. Whether a whole record of the kind and the length stands at an offset, which may be any. */
 static bool record_is_at(list_u8 list, uint64_t at, uint16_t kind, uint16_t length)
 {
-    uint64_t size;
-    uint16_t v9;
-    size = 4ull + (uint64_t)length;
-    if (list.length < at) {
-        return false;
+    bool v5, v6, v7;
+    uint16_t v13, v14;
+    v7 = at <= list.length;
+    if (v7) {
+        v7 = (4ull + (uint64_t)length) <= (list.length - at);
     }
-    if ((list.length - at) < size) {
-        return false;
+    v6 = v7;
+    if (v6) {
+        v13 = little_endian_read_u16(list, at);
+        v6 = v13 == length;
     }
-    v9 = little_endian_read_u16(list, at);
-    if (v9 != length) {
-        return false;
+    v5 = v6;
+    if (v5) {
+        v14 = little_endian_read_u16(list, at + 2ull);
+        v5 = v14 == kind;
     }
-    v9 = little_endian_read_u16(list, at + 2ull);
-    return v9 == kind;
+    return v5;
 }
 
 int main(int argc, char **argv)
