@@ -292,7 +292,7 @@ fn complain(text: &[u8], blame: Blame, to: &mut [u8]) -> Answered
     ensures { Answers (complaint text.now blame []) to.old to.new [] result }
 {
     let word = text::blamed(text, blame.line);
-    let length = words::wrong_line(to, blame.wrong, blame.line, word);
+    let length = words::wrong_line(to, blame.wrong.number(), blame.line, word);
     Answered {
         status: Status::Refused,
         length,

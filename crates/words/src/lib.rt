@@ -5,11 +5,8 @@
 ghost use Rattle.std.specs.Prelude.{◌≡◌, [], ◌+◌, ◌≤◌, length, get_or};
 ghost use Rattle.decimal.specs.Put.{Put};
 ghost use Rattle.split.specs.Parts.{lines};
-ghost use Rattle.numeral.specs.Number.{number_of};
 ghost use Rattle.words.specs.Sentences.{sentence, longest};
 ghost use Rattle.words.specs.Said.{at_line, counts, at_place, refused_words, refused_line, value_line, quoted, shown, wrong_line, mended_line};
-
-use numeral::Wrong;
 
 // What a sentence is looked up in.
 #[derive(Drop)]
@@ -247,14 +244,14 @@ fn put_shown(to: &mut [u8], at: usize, line: u32, word: &[u8]) -> usize
 }
 
 // What is wrong in the text of a sheet, at the front of a buffer: its line, the word that is to blame, and its sentence.
-pub fn wrong_line(to: &mut [u8], wrong: Wrong, line: u32, word: &[u8]) -> usize
+pub fn wrong_line(to: &mut [u8], wrong: u32, line: u32, word: &[u8]) -> usize
     requires { 4096 ≤ length to.old }
-    ensures { Put (wrong_line (number_of wrong) line word.now) to.old to.new 0 result }
+    ensures { Put (wrong_line wrong line word.now) to.old to.new 0 result }
 {
     let after_line = put_line(to, 0, line);
     let after_word = put_shown(to, after_line, line, word);
     let next = decimal::put_words(to, after_word, b" ");
-    let end = put_sentence(to, next, Table::Wrongs, wrong.number());
+    let end = put_sentence(to, next, Table::Wrongs, wrong);
     decimal::put_byte(to, end, b'\n')
 }
 

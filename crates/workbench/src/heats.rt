@@ -31,7 +31,7 @@ fn refused(rt: HostRuntime, file: &[u8], lines: &[u32], heated: Heated) -> Undon
 fn wrong(rt: HostRuntime, file: &[u8], text: &[u8], blame: Blame) -> Undone {
     let mut said = io::buffer();
     let word = values::blamed(text, blame.line);
-    let n = words::wrong_line(&mut said, blame.wrong, blame.line, word);
+    let n = words::wrong_line(&mut said, blame.wrong.number(), blame.line, word);
     complain(rt, file, crate::places::front(&said, n))
 }
 

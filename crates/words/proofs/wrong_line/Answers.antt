@@ -36,11 +36,11 @@ put_byte-requires c =
     let s = c.put_words-next.ensures in
     let t = c.put_sentence-end.ensures in
     omega
-    (arith, c.requires, p.behind, same_room p, r.behind, same_room r, s.behind, same_room s, t.behind, same_room t, length_at_line c.args.line, length_shown c.args.line c.args.word.now, c.number.ensures, sentence_short Wrongs c.number.result)
+    (arith, c.requires, p.behind, same_room p, r.behind, same_room r, s.behind, same_room s, t.behind, same_room t, length_at_line c.args.line, length_shown c.args.line c.args.word.now, sentence_short Wrongs c.args.wrong)
 
 pub returns : goal.returns
 unfolding wrong_line spelled
 returns c =
     put_then
-    (put_then (put_then (put_then c.put_line-after_line.ensures c.put_shown-after_word.ensures) c.put_words-next.ensures) (rw c.number.ensures at c.put_sentence-end.ensures))
+    (put_then (put_then (put_then c.put_line-after_line.ensures c.put_shown-after_word.ensures) c.put_words-next.ensures) c.put_sentence-end.ensures)
     c.put_byte.ensures
