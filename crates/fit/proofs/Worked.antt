@@ -3,10 +3,10 @@ use Prim.Native.Nat.{ℕ, ◌<◌, ◌≤◌}
 use native.Mathlib.Omega.{arith}
 use mathlib.Core.Path.{◌≡◌, sym, ap, ap₂, ◌∙◌}
 use mathlib.Core.Bool.{true}
-use mathlib.Core.List.{List}
+use mathlib.Core.List.{List, ◌++◌}
 use lib.Dec.{lit<}
-use lib.IntN.{ℤ}
-use lib.ListN.{length, get_or, take}
+use lib.IntN.{ℤ, pos}
+use lib.ListN.{length, get_or, take, drop, replicate}
 use lib.Seq.{length-take-le, get_or-take}
 use Rattle.std.specs.Prelude.{Ok, Err}
 use Rattle.std.proofs.lemmas.List.{length-take}
@@ -32,7 +32,7 @@ use Rattle.units.specs.Units.{units_of, held}
 use Rattle.numbers.specs.declared.Numbers.{Numbers}
 use Rattle.numbers.specs.Numbers.{slope_at, curvature_at, scaled}
 use Rattle.fit.specs.Fit.{tested}
-use Rattle.fit.specs.Jobs.{kind_by, solved_by, card_by, card_with, worked}
+use Rattle.fit.specs.Jobs.{kind_by, solved_by, card_by, card_with, worked, numbers_by}
 use Rattle.fit.proofs.Held.{both_held, curvatures_held}
 
 module _ (xs : List ℕ) (ys ms : List ℤ) (job : Job) where
@@ -64,14 +64,27 @@ module _ (xs : List ℕ) (ys ms : List ℤ) (job : Job) {p : Solved} (is : p ≡
         ∙ pairs_finite (step_by xs ys ms job) (turn_by job) (length xs) k (omega (arith, length-take (length xs) pairs))
 
     -- the numbers that were worked out of the pairs
-    pub worked_out : {x : Numbers} → length xs ≤ length pairs → x ≡ scaled (take (length xs) pairs) (length (take (length xs) pairs)) → tested (kind_by job) (card_with xs ys ms job x) ≡ worked xs ys ms job
-    unfolding worked solved_by ◌then◌
-    worked_out room e =
+    pub numbers_are : {x : Numbers} → length xs ≤ length pairs → x ≡ scaled (take (length xs) pairs) (length (take (length xs) pairs)) → x ≡ numbers_by xs ys ms job
+    unfolding numbers_by solved_by
+    numbers_are room e =
         let n = length xs in
         let front = take n pairs in
+        let behind = drop n (replicate most (pos 0)) in
         let same : (k : ℕ) → k < n → get_or front k no_pair ≡ get_or pairs k no_pair = λ k h. get_or-take n pairs k no_pair h in
-        ap (λ x. tested (kind_by job) (card_with xs ys ms job x)) (e ∙ ap (scaled front) (length-take-le n pairs room))
+        e
+        ∙ ap (scaled front) (length-take-le n pairs room)
+        ∙ ap₂ (λ slopes curvatures. record { slopes = slopes ++ behind; curvatures = curvatures ++ behind })
+        (listed_same _ _ n (λ k h. ap (λ v. held (units_of v.s)) (same k h)))
+        (listed_same _ _ n (λ k h. ap (λ v. held (units_of v.c)) (same k h)))
+        ∙ ap (λ s. scaled (pairs_in s) n) (sym z ∙ is)
+
+    -- and the card that they make
+    pub worked_out : {x : Numbers} → x ≡ numbers_by xs ys ms job → tested (kind_by job) (card_with xs ys ms job x) ≡ worked xs ys ms job
+    unfolding worked numbers_by solved_by ◌then◌
+    worked_out e =
+        let n = length xs in
+        let all = pairs_in (passes (step_by xs ys ms job) (turn_by job) n) in
+        ap (λ x. tested (kind_by job) (card_with xs ys ms job x)) e
         ∙ ap₂ (tested_by xs ys ms job) (front_over _ n _) (front_over _ n _)
-        ∙ held_by xs ys ms job (slope_at front) (curvature_at front)
-        ∙ ap₂ (tested_by xs ys ms job) (listed_same _ _ n (λ k h. ap (λ v. units_of v.s) (same k h))) (listed_same _ _ n (λ k h. ap (λ v. units_of v.c) (same k h)))
-        ∙ sym (ap (tested_of xs ys ms job) (sym is ∙ z))
+        ∙ held_by xs ys ms job (slope_at all) (curvature_at all)
+        ∙ sym (ap (λ s. verdict_in s then tested_by xs ys ms job (listed (slope_at all) n) (listed (curvature_at all) n)) (sym is ∙ z))

@@ -13,7 +13,7 @@ use Rattle.passes.specs.Jobs.{step_by, turn_by}
 use Rattle.passes.specs.Passes.{Solved, pairs_in, verdict_in, passes}
 use Rattle.front.specs.Front.{listed}
 use Rattle.numbers.specs.declared.Numbers.{Numbers}
-use Rattle.numbers.specs.Numbers.{slope_at, curvature_at}
+use Rattle.numbers.specs.Numbers.{slope_at, curvature_at, scaled}
 use Rattle.fit.specs.Fit.{tested}
 
 abbrev pub kind_by : Job → Kind
@@ -34,6 +34,10 @@ module _ (xs : List ℕ) (ys ms : List ℤ) where
   worked job =
       let pairs = pairs_in (solved_by job) in
       verdict_in (solved_by job) then tested (kind_by job) (card_by job (listed (slope_at pairs) (length xs)) (listed (curvature_at pairs) (length xs)))
+
+  -- the numbers that are handed on, whole: each knot's slope and curvature out of the two passes, by either job, and zeros behind the knots
+  unfoldable pub numbers_by : Job → Numbers
+  numbers_by job = scaled (pairs_in (solved_by job)) (length xs)
 
   -- the card that the first of these numbers are
   abbrev pub card_with : Job → Numbers → Card

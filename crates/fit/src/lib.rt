@@ -2,7 +2,7 @@
 // writes them. The order of the tests is that of "Numbers of refusal".
 #![tactic(auto)]
 
-ghost use Rattle.std.specs.Prelude.{◌≡◌, ◌≤◌, length};
+ghost use Rattle.std.specs.Prelude.{◌≡◌, ◌≤◌, length, IfOk};
 ghost use Rattle.answer.specs.Answer.{accepted, ◌then◌, each};
 ghost use Rattle.answer.specs.Judge.{verdict_of};
 ghost use Rattle.curve.specs.Kind.{quintic};
@@ -10,7 +10,7 @@ ghost use Rattle.curve.specs.Steps.{stands};
 ghost use Rattle.curve.specs.Orders.{numbers_sound};
 ghost use Rattle.passes.specs.Sheet.{most};
 ghost use Rattle.fit.specs.Fit.{standing, eliminated, card_of, tested, fit_of, fit_between, fit_codes, fit};
-ghost use Rattle.fit.specs.Jobs.{kind_by, card_with, worked, handed};
+ghost use Rattle.fit.specs.Jobs.{kind_by, card_with, worked, handed, numbers_by};
 ghost use Rattle.fit.specs.Promise.{fitted_of, Fits, Alike};
 
 use answer::{Judged, Refusal};
@@ -86,7 +86,7 @@ fn judge(minutes: &[u16], ordinates: &[i16], slopes: &[i32], job: Job, numbers: 
     }
 }
 
-// 8; 9; 10: what the knots get, beside the lent lists.
+// 8; 9; 10: what the knots get, beside the lent lists, with zeros behind the knots, and for slopes that are given.
 pub fn work_out(
     minutes: &[u16],
     ordinates: &[i16],
@@ -95,7 +95,8 @@ pub fn work_out(
 ) -> Result<Numbers, Refusal>
     requires minutes_len_bound { (length minutes.now ≤ most) × (length ordinates.now ≡ length minutes.now) × (length slopes.now ≡ length minutes.now) }
     requires stand { each (stands quintic minutes.now ordinates.now) 0 (length minutes.now) ≡ accepted }
-    ensures { handed minutes.now ordinates.now slopes.now job result ≡ worked minutes.now ordinates.now slopes.now job }
+    ensures card { handed minutes.now ordinates.now slopes.now job result ≡ worked minutes.now ordinates.now slopes.now job }
+    ensures numbers { IfOk result (λ numbers. numbers ≡ numbers_by minutes.now ordinates.now slopes.now job) }
 {
     let pairs = passes::pairs_of(minutes, ordinates, slopes, job)?;
     let numbers = numbers::scale(&pairs[..minutes.len()]);

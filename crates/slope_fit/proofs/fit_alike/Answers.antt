@@ -18,7 +18,7 @@ returns-in_err-in_range c =
 pub returns-in_err-numbers : goal.returns-in_err-numbers
 returns-in_err-numbers c =
     let s = c.args in
-    let out = sym (ap (handed s.minutes.now s.ordinates.now s.slopes.now Slopes) c.in_err-numbers.was) ∙ c.work_out.ensures in
+    let out = sym (ap (handed s.minutes.now s.ordinates.now s.slopes.now Slopes) c.in_err-numbers.was) ∙ c.work_out.ensures.card in
     fits_exit _ _ c.from_residual-in_err-numbers.ensures.1
     (step_passes _ c.stand.ensures c.in_ok-stand.was (step_passes _ (c.in_range.ensures _) c.in_ok-in_range.was out) ∙ by_steps _ _ _)
 
@@ -26,7 +26,7 @@ pub returns : goal.returns
 returns c =
     let s = c.args in
     let x = c.in_ok-numbers.numbers in
-    let out = sym (ap (handed s.minutes.now s.ordinates.now s.slopes.now Slopes) c.in_ok-numbers.was) ∙ c.work_out.ensures in
+    let out = sym (ap (handed s.minutes.now s.ordinates.now s.slopes.now Slopes) c.in_ok-numbers.was) ∙ c.work_out.ensures.card in
     fits_along
     (step_passes _ c.stand.ensures c.in_ok-stand.was (step_passes _ (c.in_range.ensures _) c.in_ok-in_range.was out) ∙ by_steps _ _ _)
     (fits_given refl (c.write.ensures ∙ ap (λ n. take n x.curvatures) c.requires.curvatures))
