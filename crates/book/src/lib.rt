@@ -132,18 +132,24 @@ pub struct Used {
 impl Used {
     // A book has no more bytes.
     pub const MOST: usize = 16384;
+
+    #[tactic(auto, unfolding(crate::specs::Lookup::in_use))]
+    pub fn refused(number: u32, place: u32) -> Used
+        ensures { result ≡ in_use (refused number place) }
+    {
+        Used {
+            number,
+            place,
+            bytes: 0,
+        }
+    }
 }
 
-#[tactic(auto, unfolding(crate::specs::Lookup::in_use))]
 impl From<Refusal> for Used {
     ghost from_gives = { λ r u. u ≡ in_use (refused (number_of r.reason) r.place) };
 
     fn from(refusal: Refusal) -> Used {
-        Used {
-            number: refusal.number(),
-            place: refusal.place,
-            bytes: 0,
-        }
+        Used::refused(refusal.number(), refusal.place)
     }
 }
 

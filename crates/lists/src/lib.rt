@@ -97,18 +97,26 @@ pub struct CardReading {
     pub looks: u32,
 }
 
-impl From<Refusal> for CardReading {
-    ghost from_gives = { λ r reading. reading ≡ answered 0 (refused (number_of r.reason) r.place) };
-
-    fn from(refusal: Refusal) -> CardReading {
+impl CardReading {
+    pub fn refused(number: u32, place: u32) -> CardReading
+        ensures { result ≡ answered 0 (refused number place) }
+    {
         CardReading {
-            number: refusal.number(),
-            place: refusal.place,
+            number,
+            place,
             value: 0,
             slope: 0,
             curvature: 0,
             looks: 0,
         }
+    }
+}
+
+impl From<Refusal> for CardReading {
+    ghost from_gives = { λ r reading. reading ≡ answered 0 (refused (number_of r.reason) r.place) };
+
+    fn from(refusal: Refusal) -> CardReading {
+        CardReading::refused(refusal.number(), refusal.place)
     }
 }
 
