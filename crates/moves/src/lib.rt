@@ -13,10 +13,13 @@ pub fn slide(list: &mut [u8], from: usize, to: usize, count: usize)
     list.copy_within(from..from + count, to);
 }
 
-// A part, stored from `at` on.
+// A part, stored from `at` on, byte by byte: for std's copy_from_slice of lists whose places may be any, the
+// archive for C would call memmove, where it needs memcpy and memset alone.
 pub fn copy_in(part: &[u8], list: &mut [u8], at: usize)
     requires { at + length part.now ≤ length list.old }
     ensures { list.new ≡ sets list.old at part.now }
 {
-    list[at..at + part.len()].copy_from_slice(part);
+    for i in 0..part.len() {
+        list[at + i] = part[i];
+    }
 }

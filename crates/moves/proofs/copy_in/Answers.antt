@@ -1,13 +1,20 @@
--- `moves::copy_in` meets its contract: a part written over a range is a run of stores. Assumes nothing.
-use Rattle.std.proofs.Common.{length, refl, ◌∙◌, append_assoc, arith}
-use Rattle.std.proofs.lemmas.List.Edits.{sets-eq, paste_all}
-use Rattle.std.proofs.lemmas.Slice.{put_mid-paste}
+-- `moves::copy_in` meets its contract.
+-- Assumes nothing.
+use native.Mathlib.Omega.{arith}
+use Rattle.moves.proofs.Shift.{copy_start, copy_more, copy_end}
 use Rattle.moves.proofs.copy_in.Goals as goal
+
+pub loop-i-init : goal.loop-i-init
+loop-i-init c = (omega arith, copy_start _ _ _)
+
+pub loop-i-preserved : goal.loop-i-preserved
+loop-i-preserved c =
+    let l = c.before.before in
+    let a = l.args in
+    (omega arith, copy_more a.list.now a.at a.part.now l.loop-i.i (omega arith) (omega arith) l.loop-i.invariant.1)
 
 pub returns : goal.returns
 returns c =
-    let a = c.args in
-    let n = length a.part.now in
-    rw (sets-eq a.part.now a.list.now a.at (omega arith), append_assoc)
-    (put_mid-paste a.at _ a.list.now _ a.part.now n c.copy_from_slice.ensures.after (omega arith) refl
-    ∙ paste_all a.list.now a.at a.part.now n refl)
+    let l = c.before in
+    let a = l.args in
+    copy_end a.list.now a.at a.part.now l.loop-i.i (omega arith) (omega arith) (omega arith) l.loop-i.invariant.1
