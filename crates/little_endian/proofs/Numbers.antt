@@ -1,12 +1,12 @@
--- The laws of little-endian numbers, stated once over the number of bytes: bounds, there and back, and a number that stands in a
--- list. They follow document 01, "Card bytes", and assume nothing.
+-- The laws of little-endian numbers, stated once over the number of bytes: bounds, there and back, a number in two parts, and
+-- a number that stands in a list. They follow document 01, "Card bytes", and assume nothing.
 use Prim.Native.Nat.{ℕ, zero, suc, ◌+◌, ◌*◌, ◌-◌, ◌/◌, ◌%◌, ◌^◌, ◌≤◌, ◌<◌}
 use mathlib.Core.Path.{◌≡◌, refl, ap, sym, ◌∙◌}
 use mathlib.Core.List.{List, [], ◌∷◌, ◌++◌}
-use native.Mathlib.Nat.{pow-suc}
+use native.Mathlib.Nat.{pow-suc, mul_comm, mul_assoc}
 use native.Mathlib.Omega.{arith}
-use lib.ListN.{length, take, drop, length-append, length-drop, take-append-drop}
-use lib.Seq.{drop-drop, length-take-le, get_or-drop, take_at, drop_at}
+use lib.ListN.{length, take, drop, get_or, length-append, length-drop, take-append-drop}
+use lib.Seq.{drop-cons, take-add, drop-drop, length-take-le, get_or-drop, take_at, drop_at}
 use Rattle.little_endian.specs.Numbers.{le, un, num_at, Bytes}
 
 -- ---- bounds
@@ -59,6 +59,29 @@ le_un (b ∷ bs) h =
     let e : (b + 256 * un bs) % 256 ≡ b = omega (arith, h 0) in
     let d : (b + 256 * un bs) / 256 ≡ un bs = omega (arith, h 0) in
     rw (e, d, le_un bs (λ i. h (suc i)))
+
+-- ---- a number in two parts, the lower one of j bytes
+
+shift : (j b : ℕ) → 256 ^ suc j * b ≡ 256 * (256 ^ j * b)
+shift j b = rw (pow-suc, mul_comm (256 ^ j) 256, mul_assoc)
+
+un_append : (us bs : List ℕ) → un (us ++ bs) ≡ un us + 256 ^ length us * un bs
+unfolding un
+un_append [] bs = omega arith
+un_append (a ∷ us) bs = omega (arith, shift (length us) (un bs), un_append us bs)
+
+pub num_at_add : (j k : ℕ) (s : List ℕ) (at : ℕ)
+    → at + j ≤ length s → num_at (j + k) s at ≡ num_at j s at + 256 ^ j * num_at k s (at + j)
+unfolding num_at
+num_at_add j k s at h =
+    let l : length (take j (drop at s)) ≡ j = length-take-le j (drop at s) (simp length-drop (omega arith)) in
+    ap un (take-add j k (drop at s) ∙ ap (λ (x : List ℕ). take j (drop at s) ++ take k x) (drop-drop j at s))
+    ∙ un_append (take j (drop at s)) (take k (drop (at + j) s))
+    ∙ ap (λ (x : ℕ). un (take j (drop at s)) + 256 ^ x * un (take k (drop (at + j) s))) l
+
+pub num_at_one : (s : List ℕ) (at : ℕ) → at < length s → num_at 1 s at ≡ get_or s at 0
+unfolding num_at un
+num_at_one s at h = rw (drop-cons s at 0) (omega arith)
 
 -- ---- a number that stands in a list
 
