@@ -122,6 +122,11 @@ with_knot s n x y log sloped m =
       logs = set s.logs s.knots log;
     }
 
+-- what was lent and is left, where nothing is wrong
+unfoldable pub left : {A E : Type 0} → Result Unit E → A → Result A E
+left (Err e) a = Err e
+left (Ok u) a = Ok a
+
 unfoldable pub without_slope : Sheet → (n x : ℕ) → ℤ → (log : Bool) → Result Sheet Wrong
 without_slope s n x y log = cond s.sloped (Err Wrong.Slopeless) (Ok (with_knot s n x y log false (pos 0)))
 

@@ -7,7 +7,7 @@ ghost use Rattle.std.specs.Prelude.{◌≡◌, ◌<◌, Ok};
 ghost use Rattle.split.specs.Parts.{words};
 ghost use Rattle.numeral.specs.Number.{natural};
 ghost use Rattle.curve.specs.Card.{latest};
-ghost use Rattle.text.specs.Sheet.{with_ordinate, behind, knot, with_slope, line_by, line, bare_line, blamed_of, blamed_third, blamed_by, blamed, named, named_by, log_name, most, no_knots, with_knot, without_slope, sloping, taken, with_line, sheet};
+ghost use Rattle.text.specs.Sheet.{with_ordinate, behind, knot, with_slope, line_by, line, bare_line, blamed_of, blamed_third, blamed_by, blamed, named, named_by, log_name, most, no_knots, with_knot, left, without_slope, sloping, taken, with_line, sheet};
 
 use numeral::Wrong;
 use split::Mark;
@@ -266,65 +266,60 @@ impl Sheet {
     }
 
     #[tactic(auto, unfolding(crate::specs::Sheet::with_knot))]
-    fn with_knot(
-        self,
+    fn put_knot(
+        &mut self,
         line: u32,
         minute: u16,
         ordinate: i16,
         log: bool,
         sloped: bool,
         slope: i32,
-    ) -> Sheet
-        requires { self.knots < most }
-        ensures { result ≡ with_knot self line minute ordinate log sloped slope }
+    )
+        requires { self.old.knots < most }
+        ensures { self.new ≡ with_knot self.old line minute ordinate log sloped slope }
     {
         let knots = self.knots;
-        let mut minutes = self.minutes;
-        let mut ordinates = self.ordinates;
-        let mut slopes = self.slopes;
-        let mut lines = self.lines;
-        let mut logs = self.logs;
-        minutes[knots] = minute;
-        ordinates[knots] = ordinate;
-        slopes[knots] = slope;
-        lines[knots] = line;
-        logs[knots] = log;
-        Sheet {
-            knots: knots + 1,
-            sloped,
-            minutes,
-            ordinates,
-            slopes,
-            lines,
-            logs,
-        }
+        self.minutes[knots] = minute;
+        self.ordinates[knots] = ordinate;
+        self.slopes[knots] = slope;
+        self.lines[knots] = line;
+        self.logs[knots] = log;
+        self.sloped = sloped;
+        self.knots = knots + 1;
     }
 
     // All knots before it have none either.
-    #[tactic(auto, unfolding(crate::specs::Sheet::without_slope))]
-    fn without_slope(self, line: u32, minute: u16, ordinate: i16, log: bool) -> Result<Sheet, Wrong>
-        requires { self.knots < most }
-        ensures { result ≡ without_slope self line minute ordinate log }
+    #[tactic(auto, unfolding(crate::specs::Sheet::without_slope, crate::specs::Sheet::left))]
+    fn without_slope(
+        &mut self,
+        line: u32,
+        minute: u16,
+        ordinate: i16,
+        log: bool,
+    ) -> Result<(), Wrong>
+        requires { self.old.knots < most }
+        ensures { left result self.new ≡ without_slope self.old line minute ordinate log }
     {
         if self.sloped {
             return Err(Wrong::Slopeless);
         }
-        Ok(self.with_knot(line, minute, ordinate, log, false, 0))
+        self.put_knot(line, minute, ordinate, log, false, 0);
+        Ok(())
     }
 
     // All knots before it have one too.
-    #[tactic(auto, unfolding(crate::specs::Sheet::sloping))]
+    #[tactic(auto, unfolding(crate::specs::Sheet::sloping, crate::specs::Sheet::left))]
     fn sloping(
-        self,
+        &mut self,
         mends: bool,
         line: u32,
         minute: u16,
         ordinate: i16,
         log: bool,
         slope: i32,
-    ) -> Result<Sheet, Wrong>
-        requires { self.knots < most }
-        ensures { result ≡ sloping mends self line minute ordinate log slope }
+    ) -> Result<(), Wrong>
+        requires { self.old.knots < most }
+        ensures { left result self.new ≡ sloping mends self.old line minute ordinate log slope }
     {
         if mends {
             return Err(Wrong::Unmended);
@@ -332,16 +327,17 @@ impl Sheet {
         if !self.sloped && 0 < self.knots {
             return Err(Wrong::OddSlope);
         }
-        Ok(self.with_knot(line, minute, ordinate, log, true, slope))
+        self.put_knot(line, minute, ordinate, log, true, slope);
+        Ok(())
     }
 
-    #[tactic(auto, unfolding(crate::specs::Sheet::taken))]
-    fn taken(self, mends: bool, line: u32, found: Line) -> Result<Sheet, Wrong>
-        requires { self.knots < most }
-        ensures { result ≡ taken mends self line found }
+    #[tactic(auto, unfolding(crate::specs::Sheet::taken, crate::specs::Sheet::left))]
+    fn take(&mut self, mends: bool, line: u32, found: Line) -> Result<(), Wrong>
+        requires { self.old.knots < most }
+        ensures { left result self.new ≡ taken mends self.old line found }
     {
         match found {
-            Line::Empty => Ok(self),
+            Line::Empty => Ok(()),
             Line::Knot {
                 minute,
                 ordinate,
@@ -369,13 +365,14 @@ impl Sheet {
         }
     }
 
-    #[tactic(auto, unfolding(crate::specs::Sheet::line_taken, crate::specs::Sheet::blaming))]
-    fn with_line(self, mends: bool, line: u32, text: &[u8]) -> Result<Sheet, Blame>
-        requires { self.knots < most }
-        ensures { result ≡ with_line mends self line text.now }
+    // A line with no knot leaves the sheet where it lies: it is lent, and never moved through a Result.
+    #[tactic(auto, unfolding(crate::specs::Sheet::line_taken, crate::specs::Sheet::blaming, crate::specs::Sheet::left))]
+    fn take_line(&mut self, mends: bool, line: u32, text: &[u8]) -> Result<(), Blame>
+        requires { self.old.knots < most }
+        ensures { left result self.new ≡ with_line mends self.old line text.now }
     {
-        Line::of(text)
-            .and_then(|found| self.taken(mends, line, found))
+        let found = Line::of(text).map_err(|wrong| Blame { wrong, line })?;
+        self.take(mends, line, found)
             .map_err(|wrong| Blame { wrong, line })
     }
 
@@ -395,7 +392,7 @@ impl Sheet {
         // only the line that was found says where the next one starts: a for would be no plainer
         while sheet.knots < Sheet::MOST && at <= text.len() {
             let found = split::until(Mark::LineEnd, split::from(text, at));
-            sheet = sheet.with_line(mends, line, found)?;
+            sheet.take_line(mends, line, found)?;
             line += 1;
             at += found.len() + 1;
         }

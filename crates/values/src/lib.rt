@@ -4,6 +4,7 @@
 
 ghost use Rattle.std.specs.Prelude.{◌≡◌, ◌<◌};
 ghost use Rattle.split.specs.Parts.{words};
+ghost use Rattle.text.specs.Sheet.{left};
 ghost use Rattle.values.specs.Values.{most, no_values, with_value, taken, with_words, values, first_wrong, blamed};
 
 use numeral::Wrong;
@@ -35,30 +36,27 @@ impl Values {
     }
 
     #[tactic(auto, unfolding(crate::specs::Values::with_value))]
-    fn with_value(self, line: u32, value: i16) -> Values
-        requires { self.count < most }
-        ensures { result ≡ with_value self line value }
+    fn put_value(&mut self, line: u32, value: i16)
+        requires { self.old.count < most }
+        ensures { self.new ≡ with_value self.old line value }
     {
         let count = self.count;
-        let mut values = self.values;
-        let mut lines = self.lines;
-        values[count] = value;
-        lines[count] = line;
-        Values {
-            count: count + 1,
-            values,
-            lines,
-        }
+        self.values[count] = value;
+        self.lines[count] = line;
+        self.count = count + 1;
     }
 
     // A table has no holes.
-    #[tactic(auto, unfolding(crate::specs::Values::taken))]
-    fn taken(self, line: u32, word: Result<Option<i16>, Wrong>) -> Result<Values, Blame>
-        requires { self.count < most }
-        ensures { result ≡ taken self line word }
+    #[tactic(auto, unfolding(crate::specs::Values::taken, text::specs::Sheet::left))]
+    fn take(&mut self, line: u32, word: Result<Option<i16>, Wrong>) -> Result<(), Blame>
+        requires { self.old.count < most }
+        ensures { left result self.new ≡ taken self.old line word }
     {
         match word {
-            Ok(Some(value)) => Ok(self.with_value(line, value)),
+            Ok(Some(value)) => {
+                self.put_value(line, value);
+                Ok(())
+            }
             Ok(None) => Err(Blame {
                 wrong: Wrong::NotWhole,
                 line,
@@ -68,19 +66,19 @@ impl Values {
     }
 
     // The words of a line, up to the first that is no number, and while there is a place.
-    fn with_words(self, line: u32, text: &[u8]) -> Result<Values, Blame>
-        ensures { result ≡ with_words self line (words text.now) }
+    fn take_words(&mut self, line: u32, text: &[u8]) -> Result<(), Blame>
+        ensures { left result self.new ≡ with_words self.old line (words text.now) }
     {
         let first = split::past(Mark::Word, text);
         if first.len() == 0 {
-            return Ok(self);
+            return Ok(());
         }
         if Values::MOST <= self.count {
-            return Ok(self);
+            return Ok(());
         }
         let word = split::until(Mark::Blank, first);
-        let next = self.taken(line, numeral::ordinate(word))?;
-        next.with_words(line, split::past(Mark::Blank, first))
+        self.take(line, numeral::ordinate(word))?;
+        self.take_words(line, split::past(Mark::Blank, first))
     }
 
     pub fn read(text: &[u8]) -> Result<Values, Blame>
@@ -98,7 +96,7 @@ impl Values {
         // only the line that was found says where the next one starts: a for would be no plainer
         while at <= text.len() {
             let found = split::until(Mark::LineEnd, split::from(text, at));
-            values = values.with_words(line, split::until(Mark::Note, found))?;
+            values.take_words(line, split::until(Mark::Note, found))?;
             line += 1;
             at += found.len() + 1;
         }
