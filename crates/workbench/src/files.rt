@@ -1,6 +1,6 @@
 // A whole file read, and a file put in another's place at once. `-` is standard input or output.
 
-ghost use Rattle.std.specs.Prelude.{◌≡◌, ◌≤◌, length};
+ghost use Rattle.std.specs.Prelude.{◌≡◌, ◌≤◌, length, IfOk};
 ghost use Rattle.std.specs.Io.{ReadsAtMost};
 
 use crate::tell::{Done, Undone};
@@ -63,7 +63,9 @@ pub(crate) fn load<'a>(
     rt: HostRuntime,
     path: &[u8],
     buffer: &'a mut [u8],
-) -> Result<&'a [u8], Undone> {
+) -> Result<&'a [u8], Undone>
+    ensures { IfOk result (λ bytes. length bytes.now ≤ length buffer.old) }
+{
     match load_file(rt, path, buffer) {
         Ok(n) => Ok(&buffer[..n]),
         Err(error) => Err(unloaded(rt, path, error)),

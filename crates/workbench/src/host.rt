@@ -1,6 +1,8 @@
 // What the program asks of the system, over `std`: its arguments, files by their names, its process's number,
 // and what an error says. A name is bytes, and `std` takes text: a name that is no text is told as the system
 // tells it.
+ghost use Rattle.std.specs.Prelude.{◌≤◌, length};
+
 use crate::tell::Text;
 use std::env::{Env, FillError};
 use std::fmt::Write;
@@ -8,7 +10,9 @@ use std::fs::{File, OpenOptions};
 use std::io::{Error, ErrorKind};
 
 // Argument i, in the buffer; nothing where there is none or it does not fit.
-pub(crate) fn arg(rt: HostRuntime, i: usize, word: &mut [u8]) -> &[u8] {
+pub(crate) fn arg(rt: HostRuntime, i: usize, word: &mut [u8]) -> &[u8]
+    ensures { length result.now ≤ length word.old }
+{
     let n = rt.arg(i, word).unwrap_or(0);
     &word[..n]
 }
