@@ -71,7 +71,8 @@ use Rattle.lists.proofs.code_at.Reads as code_at
 use Rattle.lists.proofs.asks.Reads as asks
 use Rattle.lists.proofs.numbers_sound.Reads as numbers_sound
 use Rattle.lists.proofs.sound.Reads as sound
-use Rattle.lists.proofs.CardReadingFromRefusal.from.Reads as reading-refused
+use Rattle.lists.proofs.CardReading.refused.Reads as reading-refused
+use Rattle.lists.proofs.CardReadingFromRefusal.from.Reads as reading-of
 use Rattle.lists.proofs.Lists.knot.Reads as lists-knot
 use Rattle.lists.proofs.Lists.curve.Reads as lists-curve
 use Rattle.lists.proofs.Lists.spell.Reads as lists-spell
@@ -142,9 +143,8 @@ use Rattle.ends.proofs.given_ends.Reads as given-ends
 use Rattle.numbers.proofs.scale.Reads as scale
 use Rattle.numbers.proofs.write.Reads as write-numbers
 use Rattle.fit.specs.declared.Fitted.{Fitted}
-use Rattle.fit.specs.Jobs.{handed}
 use Rattle.fit.specs.Promise.{fitted_of, Fits}
-use Rattle.fit.proofs.Outcome.{one_fit}
+use Rattle.fit.proofs.Outcome.{one_fit, one_work}
 use Rattle.fit.proofs.FittedFromJudged.from.Reads as fitted-judged
 use Rattle.fit.proofs.work_out.Reads as work_out
 use Rattle.fit.proofs.fit_into.Reads as fit_into
@@ -154,6 +154,7 @@ use Rattle.fit.proofs.fit.Reads as fit
 use Rattle.slope_fit.proofs.fit.Reads as fit_slopes
 use Rattle.refit.specs.declared.Refitted.{Refitted}
 use Rattle.refit.specs.Promise.{Refits}
+use Rattle.refit.proofs.RefittedFromRefusal.from.Reads as refitted-refused
 use Rattle.refit.proofs.refit.Reads as refit
 use Rattle.decimal.specs.Put.{Put}
 use Rattle.decimal.proofs.Puts.{one_put}
@@ -237,7 +238,8 @@ use Rattle.book.proofs.Standing.{one_step}
 use Rattle.book.proofs.Answers.{one_walked}
 use Rattle.book.proofs.step_at.Reads as book-step
 use Rattle.book.proofs.walk.Reads as book-walk
-use Rattle.book.proofs.UsedFromRefusal.from.Reads as used-refused
+use Rattle.book.proofs.Used.refused.Reads as used-refused
+use Rattle.book.proofs.UsedFromRefusal.from.Reads as used-of
 use Rattle.book.proofs.SpotFromRefusal.from.Reads as spot-refused
 use Rattle.book.proofs.check.Reads as book-check
 use Rattle.book.proofs.own.Reads as book-own
@@ -513,8 +515,8 @@ gap_curve = (equation _ _, equation _ _, equation _ _)
 pub two_gaps : Once order-number.Post × Once jump.Post × Once allowance.Post × Once spans-of.Post × Once spans_none.Post × Once meet.Post
 two_gaps = (equation _ _, equation _ _, equation _ _, equation _ _, equation _ _, equation _ _)
 
-pub lists : Once numbers_sound.Post × Once sound.Post × Once reading-refused.Post × Once lists-curve.Post × Once lists-read.Post
-lists = (judgement _, judgement _, equation _ _, equation _ _, λ κs a x y s t p q. one_outcome (p 0 0) (q 0 0))
+pub lists : Once numbers_sound.Post × Once sound.Post × Once reading-refused.Post × Once reading-of.Post × Once lists-curve.Post × Once lists-read.Post
+lists = (judgement _, judgement _, equation _ _, equation _ _, equation _ _, λ κs a x y s t p q. one_outcome (p 0 0) (q 0 0))
 
 pub knots_of_lists : Once knot_at.Post × Once code_at.Post × Once asks.Post × Once lists-knot.Post × Once lists-spell.Post
 knots_of_lists = (equation _ _, equation _ _, equation _ _, equation _ _, equation _ _)
@@ -560,7 +562,7 @@ pub cubic : Once cubic-entry.Post × Once unknowns-check.Post × Once unknowns-v
 cubic = (equation _ _, judgement _, equation _ _, equation _ _, (λ κs a x y s t p q. one_result x y (one_outcome p q)), equation _ _)
 
 -- a refusal stands in each answer beside zeros, whatever the card, its kind or the count
-pub refused_answers : Once checked-refused.Post × Once tabled-refused.Post × Once swung-refused.Post × Once explained-refused.Post × Once written-refused.Post × Once preheat-refused.Post
+pub refused_answers : Once checked-refused.Post × Once tabled-refused.Post × Once swung-refused.Post × Once explained-refused.Post × Once written-refused.Post × Once preheat-refused.Post × Once refitted-refused.Post
 refused_answers = (
   (λ κs a x y s t p q. one_outcome (p quintic no_card) (q quintic no_card)),
   (λ κs a x y s t p q. one_outcome (p 0) (q 0)),
@@ -568,6 +570,7 @@ refused_answers = (
   equation _ _,
   (λ κs a x y s t p q. one_outcome (p 0) (q 0)),
   equation _ _,
+  (λ κs a x y s t p q. one_outcome (p no_card) (q no_card)),
 )
   where
     no_card : Card
@@ -588,8 +591,8 @@ pub moved : Lent slide.Post (λ s. s.0.now) × Lent copy-in.Post (λ s. s.1.0.no
 moved = (equation _ _, equation _ _)
 
 -- the part that is handed back is told by its bytes
-pub book : Once book-step.Post × Once book-walk.Post × Once used-refused.Post × Once spot-refused.Post × Once book-check.Post × Once book-own.Post × Once book_find.Post × Leaves book-lookup.Post (λ x s. x.now)
-book = ((λ κs a x y s t p q. one_step a.1.0 x y (one_outcome p q)), (λ κs a x y s t p q. one_walked x y (one_outcome p q)), equation _ _, equation _ _, equation _ _, judgement _, equation _ _, equation _ _)
+pub book : Once book-step.Post × Once book-walk.Post × Once used-refused.Post × Once used-of.Post × Once spot-refused.Post × Once book-check.Post × Once book-own.Post × Once book_find.Post × Leaves book-lookup.Post (λ x s. x.now)
+book = ((λ κs a x y s t p q. one_step a.1.0 x y (one_outcome p q)), (λ κs a x y s t p q. one_walked x y (one_outcome p q)), equation _ _, equation _ _, equation _ _, equation _ _, judgement _, equation _ _, equation _ _)
 
 -- the buffer is the first parameter
 pub put_in_a_book : Once book-put.Post × Lent book-put.Post (λ s. s.0.now)
@@ -618,9 +621,8 @@ passes = (equation _ _, equation _ _, equation _ _, equation _ _)
 pub ends : Once code.Post × Once end_by.Post × Once given-ends.Post
 ends = (equation _ _, equation _ _, judgement _)
 
--- the numbers are told by the card that they make of the knots
-pub fit_worked_out : Once fitted-judged.Post × Means work_out.Post (λ κs a x s. handed a.0.now a.1.0.now a.1.1.0.now a.1.1.1.0 x)
-fit_worked_out = (equation _ _, meant _ _)
+pub fit_worked_out : Once fitted-judged.Post × Once work_out.Post
+fit_worked_out = (equation _ _, (λ κs a x y s t p q. one_work a.0.now a.1.0.now a.1.1.0.now a.1.1.1.0 x y (one_outcome p.0 q.0) p.1 q.1))
 
 -- slopes and curvatures are the third and the fourth parameter
 pub fit_behind_codes : Once fit_into.Post × Lent fit_into.Post (λ s. s.1.1.0.now) × Lent fit_into.Post (λ s. s.1.1.1.0.now)
