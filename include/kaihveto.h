@@ -57,18 +57,18 @@
 
    Stack. Bytes that a call needs at 64 knots, in a book at fourteen rooms with as many, in the pre-heater at
    20 values, measured and rounded up (docs/FIGURES.md, "Stack"); no proof bounds them. kaihveto.c was
-   measured by GCC and by clang at -Os and -O2 on x86-64, and has a fifth more here for other processors;
-   tests/c/stack.c measures it on them. The first call may need more, where a loader binds memcpy and memset
+   measured by GCC at -Os and -O2 on x86-64, Arm 64, Arm 32, RISC-V 64 and Cortex-M4, and by clang on x86-64;
+   tests/c/stack.c measures it on others. The first call may need more, where a loader binds memcpy and memset
    in it.
 
                            kaihveto.c   archive                 kaihveto.c   archive
-     kaihveto_mean                512       128   read, swing        6,144     4,096
-     write, write_slopes        2,048     1,024   reading, explain   6,144     4,096
-     kaihveto_check             5,120     3,072   table              7,168     4,096
-     kaihveto_book_find         6,144     3,072   fit, fit_ends     12,288    13,312
-     kaihveto_book_put          6,144     3,072   fit_slopes        12,288    13,312
-     kaihveto_book_remove       1,024       256   refit, mend       17,408    15,360
-     kaihveto_preheat           1,024       512
+     kaihveto_mean                256       128   read, swing        5,120     4,096
+     write, write_slopes        1,024     1,024   reading, explain   5,120     4,096
+     kaihveto_check             4,096     3,072   table              6,144     4,096
+     kaihveto_book_find         4,096     3,072   fit, fit_ends     13,312    13,312
+     kaihveto_book_put          4,096     3,072   fit_slopes        12,288    13,312
+     kaihveto_book_remove       1,024       256   refit, mend       16,384    15,360
+     kaihveto_preheat             512       512
 
    Time. A reading tests the whole card every time and only then looks up the minute, and so does an
    explanation: some 1 to 2 microseconds at 64 knots (docs/FIGURES.md, "Speed"). A controller that reads once

@@ -4,8 +4,8 @@
    Not proved: this translation and the C compiler; docs/TRUST.md says what was compared, and where.
 
    Names are the sources'. An integer is its bits, so it is unsigned, and s64(x) is the signed number of x's bits. A list
-   is a pointer, at, and a length. An array is a struct of e. An enum is a union of its tag and of its variants, which
-   begin with the tag. A local that the sources do not name is v and a number. */
+   is a pointer, at, and a length. An array is a struct of e. An enum is a struct of its tag and of its variants, of which
+   the one that the tag names has a meaning. A local that the sources do not name is v and a number. */
 #if !defined _POSIX_C_SOURCE
 #define _POSIX_C_SOURCE 200809L
 #endif
@@ -38,15 +38,15 @@ _Static_assert(FLT_RADIX == 2 && DBL_MANT_DIG == 53 && DBL_MAX_EXP == 1024 && DB
 _Static_assert(CHAR_BIT == 8 && sizeof(bool) == 1 && sizeof(int) >= 4 && sizeof(size_t) >= 4, "the sizes of integers");
 
 enum { answer_Reason_FewKnots, answer_Reason_ManyKnots, answer_Reason_OddLengths, answer_Reason_NotRising, answer_Reason_WideGap, answer_Reason_FarOrdinate, answer_Reason_UnfitEnd, answer_Reason_Stuck, answer_Reason_OutOfRange, answer_Reason_Jump, answer_Reason_Outside, answer_Reason_Meaningless, answer_Reason_NoGoodByte, answer_Reason_BadRecord, answer_Reason_UnknownCode, answer_Reason_LogLength, answer_Reason_Stranded, answer_Reason_FewPlaces, answer_Reason_LateMiddle, answer_Reason_NoRoom, answer_Reason_FullBook, answer_Reason_UnsortedRoom, answer_Reason_FewGoodBytes, answer_Reason_ManyValues, answer_Reason_UnfitParts, answer_Reason_ShortBuffer };
-typedef union answer_Reason answer_Reason;
+typedef struct answer_Reason answer_Reason;
 typedef struct answer_Refusal answer_Refusal;
 enum { core_result_Result_unit_Refusal_Ok, core_result_Result_unit_Refusal_Err };
-typedef union core_result_Result_unit_Refusal core_result_Result_unit_Refusal;
+typedef struct core_result_Result_unit_Refusal core_result_Result_unit_Refusal;
 typedef struct list_u16 list_u16;
 typedef struct knots_fn_stand_each_Self_list_u16_list_u16 knots_fn_stand_each_Self_list_u16_list_u16;
 typedef struct core_result_ErrResidual_Refusal core_result_ErrResidual_Refusal;
 enum { core_ops_ControlFlow_ErrResidual_Refusal_unit_Continue, core_ops_ControlFlow_ErrResidual_Refusal_unit_Break };
-typedef union core_ops_ControlFlow_ErrResidual_Refusal_unit core_ops_ControlFlow_ErrResidual_Refusal_unit;
+typedef struct core_ops_ControlFlow_ErrResidual_Refusal_unit core_ops_ControlFlow_ErrResidual_Refusal_unit;
 typedef struct list_u32 list_u32;
 typedef struct knots_fn_in_range_each_Self_list_u16_list_u32_list_u32 knots_fn_in_range_each_Self_list_u16_list_u32_list_u32;
 typedef struct list_u8 list_u8;
@@ -56,7 +56,7 @@ typedef struct mut_list_u8 mut_list_u8;
 typedef struct array_u16_0 array_u16_0;
 typedef struct array_u32_0 array_u32_0;
 enum { core_option_Option_u8_None, core_option_Option_u8_Some };
-typedef union core_option_Option_u8 core_option_Option_u8;
+typedef struct core_option_Option_u8 core_option_Option_u8;
 typedef struct array_core_option_Option_u8_0 array_core_option_Option_u8_0;
 typedef struct knots_Lent knots_Lent;
 typedef struct knots_Kind knots_Kind;
@@ -69,23 +69,23 @@ typedef struct tuple_Slots_u8_unit_unit tuple_Slots_u8_unit_unit;
 typedef struct array_u8_4 array_u8_4;
 typedef struct array_u8_2 array_u8_2;
 enum { core_option_Option_Option_u8_None, core_option_Option_Option_u8_Some };
-typedef union core_option_Option_Option_u8 core_option_Option_Option_u8;
+typedef struct core_option_Option_Option_u8 core_option_Option_Option_u8;
 enum { core_option_Option_ref_Option_u8_None, core_option_Option_ref_Option_u8_Some };
-typedef union core_option_Option_ref_Option_u8 core_option_Option_ref_Option_u8;
+typedef struct core_option_Option_ref_Option_u8 core_option_Option_ref_Option_u8;
 typedef struct list_core_option_Option_u8 list_core_option_Option_u8;
 typedef struct array_u8_4096 array_u8_4096;
 typedef struct jumps_Span jumps_Span;
 typedef struct jumps_Spans jumps_Spans;
 typedef struct gaps_Knot gaps_Knot;
 enum { jumps_Order_Third, jumps_Order_Fourth };
-typedef union jumps_Order jumps_Order;
+typedef struct jumps_Order jumps_Order;
 typedef struct array_u8_3 array_u8_3;
 typedef struct array_u8_8 array_u8_8;
 typedef struct lists_Lists lists_Lists;
 
 /* answer::Reason. Why something is refused: document 01's table and document 02's, in the order of their
    numbers, from 1 on. */
-union answer_Reason {
+struct answer_Reason {
     uint8_t tag;
 };
 
@@ -96,10 +96,9 @@ struct answer_Refusal {
 };
 
 /* core::result::Result<unit,Refusal> */
-union core_result_Result_unit_Refusal {
+struct core_result_Result_unit_Refusal {
     uint8_t tag;
     struct {
-        uint8_t tag;
         answer_Refusal f0;
     } Err;
 };
@@ -122,10 +121,9 @@ struct core_result_ErrResidual_Refusal {
 
 /* core::ops::ControlFlow<ErrResidual<Refusal>,unit>. Whether `?` goes on with a value or leaves the
    function. */
-union core_ops_ControlFlow_ErrResidual_Refusal_unit {
+struct core_ops_ControlFlow_ErrResidual_Refusal_unit {
     uint8_t tag;
     struct {
-        uint8_t tag;
         core_result_ErrResidual_Refusal f0;
     } Break;
 };
@@ -172,10 +170,9 @@ struct array_u32_0 {
 };
 
 /* core::option::Option<u8> */
-union core_option_Option_u8 {
+struct core_option_Option_u8 {
     uint8_t tag;
     struct {
-        uint8_t tag;
         uint8_t f0;
     } Some;
 };
@@ -251,19 +248,17 @@ struct array_u8_2 {
 };
 
 /* core::option::Option<Option<u8>> */
-union core_option_Option_Option_u8 {
+struct core_option_Option_Option_u8 {
     uint8_t tag;
     struct {
-        uint8_t tag;
         core_option_Option_u8 f0;
     } Some;
 };
 
 /* core::option::Option<ref_Option<u8>> */
-union core_option_Option_ref_Option_u8 {
+struct core_option_Option_ref_Option_u8 {
     uint8_t tag;
     struct {
-        uint8_t tag;
         const core_option_Option_u8 *f0;
     } Some;
 };
@@ -301,7 +296,7 @@ struct gaps_Knot {
 };
 
 /* jumps::Order. The derivatives whose jumps are tested at a knot. */
-union jumps_Order {
+struct jumps_Order {
     uint8_t tag;
 };
 
@@ -567,7 +562,7 @@ static core_result_Result_unit_Refusal answer_each_each_Self_list_u8(uint64_t a1
 static core_result_Result_unit_Refusal answer_refuse(answer_Reason reason, uint32_t place, bool test)
 {
     if (test) {
-        return (core_result_Result_unit_Refusal){.Err = {core_result_Result_unit_Refusal_Err, (answer_Refusal){reason, place}}};
+        return (core_result_Result_unit_Refusal){.tag = core_result_Result_unit_Refusal_Err, .Err = {(answer_Refusal){reason, place}}};
     }
     return (core_result_Result_unit_Refusal){.tag = core_result_Result_unit_Refusal_Ok};
 }
@@ -806,7 +801,7 @@ static core_option_Option_Option_u8 core_option_more_Option_ref_T_copied_Option_
     const core_option_Option_u8 *v3;
     if (a1.tag == core_option_Option_ref_Option_u8_Some) {
         v3 = core_option_Option_unwrap_ref_Option_u8(a1);
-        return (core_option_Option_Option_u8){.Some = {core_option_Option_Option_u8_Some, *v3}};
+        return (core_option_Option_Option_u8){.tag = core_option_Option_Option_u8_Some, .Some = {*v3}};
     } else {
         return (core_option_Option_Option_u8){.tag = core_option_Option_Option_u8_None};
     }
@@ -829,7 +824,7 @@ static core_result_Result_unit_Refusal core_result_ResultFromResidualErrResidual
 {
     answer_Refusal v2;
     v2 = core_convert_AnyFrom_from_Refusal(a1.f0);
-    return (core_result_Result_unit_Refusal){.Err = {core_result_Result_unit_Refusal_Err, v2}};
+    return (core_result_Result_unit_Refusal){.tag = core_result_Result_unit_Refusal_Err, .Err = {v2}};
 }
 
 /* core::result::ResultTry::branch<unit,Refusal> */
@@ -838,7 +833,7 @@ static core_ops_ControlFlow_ErrResidual_Refusal_unit core_result_ResultTry_branc
     if (a1.tag == core_result_Result_unit_Refusal_Ok) {
         return (core_ops_ControlFlow_ErrResidual_Refusal_unit){.tag = core_ops_ControlFlow_ErrResidual_Refusal_unit_Continue};
     } else {
-        return (core_ops_ControlFlow_ErrResidual_Refusal_unit){.Break = {core_ops_ControlFlow_ErrResidual_Refusal_unit_Break, (core_result_ErrResidual_Refusal){a1.Err.f0}}};
+        return (core_ops_ControlFlow_ErrResidual_Refusal_unit){.tag = core_ops_ControlFlow_ErrResidual_Refusal_unit_Break, .Break = {(core_result_ErrResidual_Refusal){a1.Err.f0}}};
     }
 }
 
@@ -860,7 +855,7 @@ static void core_slice_edits_slice_T_copy_from_slice_u8(mut_list_u8 a1, list_u8 
 static core_option_Option_ref_Option_u8 core_slice_index_UsizeSliceIndexRefSlice_pick_Option_u8(uint64_t a1, list_core_option_Option_u8 a2)
 {
     if (a1 < a2.length) {
-        return (core_option_Option_ref_Option_u8){.Some = {core_option_Option_ref_Option_u8_Some, &a2.at[a1]}};
+        return (core_option_Option_ref_Option_u8){.tag = core_option_Option_ref_Option_u8_Some, .Some = {&a2.at[a1]}};
     } else {
         return (core_option_Option_ref_Option_u8){.tag = core_option_Option_ref_Option_u8_None};
     }
@@ -1661,7 +1656,7 @@ static opened_Opened opened_Opened_of(knots_Kind kind, list_u8 card)
     v5 = opened_shaped(kind, card);
     if (v5.tag == core_result_Result_unit_Refusal_Err) {
         v8 = decode_Card_none();
-        return (opened_Opened){(core_result_Result_unit_Refusal){.Err = {core_result_Result_unit_Refusal_Err, v5.Err.f0}}, kind, v8};
+        return (opened_Opened){(core_result_Result_unit_Refusal){.tag = core_result_Result_unit_Refusal_Err, .Err = {v5.Err.f0}}, kind, v8};
     } else {
         v9 = decode_Card_of(card);
         v10 = opened_sound(kind, &v9);

@@ -61,6 +61,7 @@ struct Output<'a> {
     bodies: String,
     tables: String,
     table_names: Vec<String>,
+    steps: bool,
 }
 
 impl Output<'_> {
@@ -70,20 +71,33 @@ impl Output<'_> {
             (1..=f.params).filter(|&i| !self.types.empty(&f.locals[i])).map(|i| f.locals[i].declared(&names[i])).collect();
         let result = if self.types.empty(&f.locals[0]) { Ty::Unit } else { f.locals[0].clone() };
         let params = if params.is_empty() { "void".into() } else { params.join(", ") };
-        format!("static {}({params})", result.declared(&c_name(symbol)))
+        format!("{}({params})", result.declared(&c_name(symbol)))
     }
 
     fn function(&mut self, p: &Program, names: &Names, globals: &BTreeSet<String>, symbol: &str) {
         let f = &p.functions[symbol];
         let locals = local_names(names, symbol, f, globals);
         let signature = self.signature(symbol, f, &locals);
-        writeln!(self.heads, "{signature};").unwrap();
-        self.bodies += &names.comment(symbol);
-        let Body::Foreign(foreign_symbol, signs) = &f.body else { return self.body(p, names, symbol, f, locals, &signature) };
-        self.bodies += &foreign(f, &signature, &locals, foreign_symbol, signs, &mut self.helpers);
+        let (kind, text) = match &f.body {
+            Body::Foreign(name, signs) => {
+                ("static", foreign(f, &format!("static {signature}"), &locals, name, signs, &mut self.helpers))
+            }
+            _ => self.body(p, names, symbol, f, &locals, &signature),
+        };
+        writeln!(self.heads, "{kind} {signature};").unwrap();
+        self.bodies += &(names.comment(symbol) + &text);
     }
 
-    fn body(&mut self, p: &Program, names: &Names, symbol: &str, f: &Function, locals: Vec<String>, signature: &str) {
+    /// A function's text, and what stands in front of its result there.
+    fn body(
+        &mut self,
+        p: &Program,
+        names: &Names,
+        symbol: &str,
+        f: &Function,
+        locals: &[String],
+        signature: &str,
+    ) -> (&'static str, String) {
         let bindings = names.functions.get(names::base(symbol)).map_or(0, |(_, bound)| bound.len());
         let mut strided = BTreeSet::new();
         let (text, used, defined) = {
@@ -100,13 +114,15 @@ impl Output<'_> {
                 self.table_names.push(name);
             }
             let defined: Vec<Ty> = ready.tables.iter().flatten().map(|(_, _, t)| t.clone()).collect();
-            let (text, used) = Writer::new(&ready, locals.clone(), &self.table_names, &mut self.helpers, &mut strided).written();
+            let (text, used) = Writer::new(&ready, locals.to_vec(), &self.table_names, &mut self.helpers, &mut strided).written();
             (text, used, defined)
         };
         defined.iter().for_each(|t| self.types.define(t));
         self.types.strided.extend(strided);
-        let declared = self.declarations(f, &locals, &used);
-        self.bodies += &format!("{signature}\n{{\n{declared}{text}}}\n\n");
+        let declared = self.declarations(f, locals, &used);
+        let again = text.contains("while (") || text.contains("for (;;)") || text.contains(&format!("{}(", c_name(symbol)));
+        let kind = if self.steps && !again && text.lines().count() <= FEW { "STEP" } else { "static" };
+        (kind, format!("{kind} {signature}\n{{\n{declared}{text}}}\n\n"))
     }
 
     /// The locals that the text names, those of one type in one line; and the parameters that it does not.
@@ -214,7 +230,7 @@ fn initial(types: &Types, constant: &Constant, t: &Ty, name: &str, whole: &Ty) -
                     let (v, tag) = (*v as usize, types.variant_tag(symbol, *v as usize));
                     match variants[v].iter().all(|f| types.empty(f)) {
                         true => format!("{{.tag = {tag}}}"),
-                        false => format!("{{.{} = {{{tag}, {}}}}}", types.variant(symbol, v), joined(fields, &variants[v])),
+                        false => format!("{{.tag = {tag}, .{} = {{{}}}}}", types.variant(symbol, v), joined(fields, &variants[v])),
                     }
                 }
                 _ => fail("a constant's tag", name),
@@ -269,7 +285,8 @@ fn translate() {
 
     let types = Types::new(p.shapes.clone(), &names);
     let empty = String::new;
-    let mut out = Output { types, helpers: Helpers::default(), heads: empty(), bodies: empty(), tables: empty(), table_names: vec![] };
+    let (helpers, steps) = (Helpers::default(), header.is_some());
+    let mut out = Output { types, helpers, heads: empty(), bodies: empty(), tables: empty(), table_names: vec![], steps };
     reached.iter().for_each(|symbol| out.function(&p, &names, &globals, symbol));
     for (symbol, prototype) in &exports {
         out.bodies += &exported(&out.types, symbol, &p.functions[symbol], prototype);
@@ -285,8 +302,9 @@ fn translate() {
     };
     let head = HEAD.replace("WHAT", &what).replace("SUM", &option("--sum").unwrap_or_default());
     let posix = if header.is_none() { POSIX } else { "" };
+    let step = if steps { STEP } else { "" };
     print!(
-        "{head}{posix}{STANDARD}{includes}{TESTS}\n{}\n{}{}{}\n{}\n",
+        "{head}{posix}{STANDARD}{includes}{TESTS}{step}\n{}\n{}{}{}\n{}\n",
         out.types.text(),
         out.helpers.text(),
         out.tables,
@@ -294,6 +312,10 @@ fn translate() {
         out.bodies.trim_end()
     );
 }
+
+/// A library's function of so many lines, with no loop, is a step of those that call it. A program's are not,
+/// most of which are those that print: its C would take twice as long to compile.
+const FEW: usize = 8;
 
 const HEAD: &str = include_str!("head.txt");
 
@@ -303,6 +325,8 @@ const STANDARD: &str =
     "#include <float.h>\n#include <limits.h>\n#include <stdbool.h>\n#include <stddef.h>\n#include <stdint.h>\n#include <string.h>\n";
 
 const TESTS: &str = include_str!("tests.txt");
+
+const STEP: &str = include_str!("step.txt");
 
 /// A deep term asks for a deep stack.
 fn main() {

@@ -257,36 +257,36 @@ impl<'a> Types<'a> {
                 self.define(of);
                 // an array of no element has one that nothing reads, since C has none
                 let element = of.declared(&format!("e[{}]", n.max(&1)));
-                self.open("struct", &name, &format!("    {element};\n"), None);
+                self.open(&name, &format!("    {element};\n"), None);
             }
             Ty::Slice(_, of) => {
                 self.define(of);
                 let pointer = t.pointer().declared("at");
-                self.open("struct", &name, &format!("    {pointer};\n    uint64_t length;\n"), None);
+                self.open(&name, &format!("    {pointer};\n    uint64_t length;\n"), None);
             }
             Ty::Named(symbol) => match self.shape(symbol).clone() {
                 Shape::Fields(fields) => {
                     fields.iter().for_each(|f| self.define(f));
                     let members = self.members(&fields, |types, k| types.field(symbol, k), "    ");
-                    self.open("struct", &name, &members, Some(symbol));
+                    self.open(&name, &members, Some(symbol));
                 }
                 Shape::Variants(variants) => {
                     variants.iter().flatten().for_each(|f| self.define(f));
-                    let members = self.union_members(symbol, &variants);
+                    let members = self.enum_members(symbol, &variants);
                     let tags: Vec<String> = (0..variants.len()).map(|v| self.variant_tag(symbol, v)).collect();
                     writeln!(self.ahead, "enum {{ {} }};", tags.join(", ")).unwrap();
-                    self.open("union", &name, &members, Some(symbol));
+                    self.open(&name, &members, Some(symbol));
                 }
             },
         }
     }
 
-    fn open(&mut self, kind: &str, name: &str, members: &str, symbol: Option<&str>) {
-        writeln!(self.ahead, "typedef {kind} {name} {name};").unwrap();
+    fn open(&mut self, name: &str, members: &str, symbol: Option<&str>) {
+        writeln!(self.ahead, "typedef struct {name} {name};").unwrap();
         if let Some(comment) = symbol.map(|symbol| self.names.comment(symbol)) {
             self.defined += &comment;
         }
-        writeln!(self.defined, "{kind} {name} {{\n{members}}};\n").unwrap();
+        writeln!(self.defined, "struct {name} {{\n{members}}};\n").unwrap();
     }
 
     fn members(&self, fields: &[Ty], name: impl Fn(&Types, usize) -> String, indent: &str) -> String {
@@ -297,13 +297,13 @@ impl<'a> Types<'a> {
         text
     }
 
-    /// Of an enum: its tag, and for each variant that has fields a struct that begins with the tag (Rust's
-    /// repr(u8)).
-    fn union_members(&self, symbol: &str, variants: &[Vec<Ty>]) -> String {
+    /// Of an enum: its tag, and for each variant that has fields a struct of them. They lie side by side and not
+    /// in a union, whose copies GCC makes in memory, byte for byte, where those of a struct stay in registers.
+    fn enum_members(&self, symbol: &str, variants: &[Vec<Ty>]) -> String {
         let mut text = "    uint8_t tag;\n".to_string();
         for (v, fields) in variants.iter().enumerate().filter(|(_, fields)| !fields.iter().all(|f| self.empty(f))) {
             let members = self.members(fields, |types, k| types.variant_field(symbol, v, k), "        ");
-            writeln!(text, "    struct {{\n        uint8_t tag;\n{members}    }} {};", self.variant(symbol, v)).unwrap();
+            writeln!(text, "    struct {{\n{members}    }} {};", self.variant(symbol, v)).unwrap();
         }
         text
     }

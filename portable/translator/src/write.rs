@@ -299,7 +299,9 @@ impl<'r, 'a> Writer<'r, 'a> {
         match (t, variant) {
             (Ty::Array(..), _) => format!("({c}){{{{{list}}}}}"),
             (_, Some(_)) if parts.len() == 1 => format!("({c}){{.tag = {list}}}"),
-            (Ty::Named(symbol), Some(v)) => format!("({c}){{.{} = {{{list}}}}}", types.variant(symbol, v)),
+            (Ty::Named(symbol), Some(v)) => {
+                format!("({c}){{.tag = {}, .{} = {{{}}}}}", parts[0], types.variant(symbol, v), parts[1..].join(", "))
+            }
             _ => format!("({c}){{{list}}}"),
         }
     }
