@@ -16,15 +16,16 @@ pub struct Numbers {
     pub curvatures: [i32; MOST],
 }
 
-// Of each pair, zeros behind them.
-pub fn scale(pairs: &[Pair]) -> Numbers
-    requires n_le_most { length pairs.now ≤ most }
-    requires all_finite { AllFinite pairs.now (length pairs.now) }
-    ensures { result ≡ scaled pairs.now (length pairs.now) }
+// Of the first n pairs, zeros behind them.
+pub fn scale(pairs: &[Pair; MOST], n: usize) -> Numbers
+    requires n_le_most { n ≤ most }
+    requires all_finite { AllFinite pairs.now n }
+    ensures { result ≡ scaled pairs.now n }
 {
     let mut slopes = [0; MOST];
     let mut curvatures = [0; MOST];
-    for (k, pair) in pairs.iter().enumerate() {
+    for k in 0..n {
+        let pair = pairs[k];
         slopes[k] = units::units_of(pair.s);
         curvatures[k] = units::units_of(pair.c);
     }

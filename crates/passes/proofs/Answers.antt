@@ -7,12 +7,12 @@ use mathlib.Core.Bool.{true}
 use mathlib.Core.List.{List}
 use lib.ListN.{get_or, get_or-replicate}
 use Rattle.elimination.specs.declared.State.{State}
-use Rattle.std.specs.Prelude.{Option, Ok, Err}
-use Rattle.answer.specs.Judge.{Judged}
+use Rattle.std.specs.Prelude.{Option, None, Ok, Err, IfErr}
+use Rattle.answer.specs.Judge.{Judged, number_of}
 use Rattle.answer.specs.declared.Refusal.{Refusal}
 use Rattle.rows.specs.declared.Pair.{Pair}
 use Rattle.elimination.specs.Elimination.{zero_pair}
-use Rattle.elimination.specs.Refusal.{both_finite}
+use Rattle.elimination.specs.Refusal.{both_finite, number_of_step}
 use Rattle.passes.specs.Sheet.{most}
 use Rattle.passes.specs.Forward.{Run, going, stuck, stuck_at, judged_of, run_to, state_at, no_state, Forwarded}
 use Rattle.passes.specs.Back.{Back, back, stopped, pair_of, back_to, pair_at, no_pair}
@@ -71,3 +71,21 @@ answered_finite (stuck i) r f = refused_finite (stuck_at i)
 pub pairs_finite : (step : State → ℕ → Option State) (turn : State → Pair → Pair) (n k : ℕ) → k < most → both_finite (get_or (pairs_in (passes step turn n)) k no_pair) ≡ true
 unfolding passes
 pairs_finite step turn n = answered_finite (run_to step n) (back_from turn (state_at step) n) (back_from_finite turn (state_at step) n)
+
+-- ---- the number of every refusal is a stuck step's
+abbrev ByStep : Solved → Type 0
+ByStep r = IfErr r (λ e. number_of e.reason ≡ number_of_step None)
+
+returned_by_step : (b : Back) (pairs : List Pair) → ByStep (returned b pairs)
+returned_by_step (back v) pairs = tt
+returned_by_step (stopped k) pairs = refl
+
+answered_by_step : (u : Run) (r : Solved) → ByStep r → ByStep (answered u r)
+answered_by_step (going x) r e = e
+answered_by_step (stuck i) r e = refl
+
+pub refused_by_step : (step : State → ℕ → Option State) (turn : State → Pair → Pair) (n : ℕ) {r : Solved} → r ≡ passes step turn n → ByStep r
+unfolding passes back_from
+refused_by_step step turn n e =
+    let pairs = listed (pair_at turn (state_at step) n) most in
+    rw e (answered_by_step (run_to step n) (returned (back_to turn (state_at step) n n) pairs) (returned_by_step (back_to turn (state_at step) n n) pairs))

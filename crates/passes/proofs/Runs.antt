@@ -9,9 +9,7 @@ use lib.ListN.{length}
 use lib.IntN.{ℤ}
 use Rattle.rows.specs.declared.Gap.{Gap}
 use Rattle.elimination.specs.declared.State.{State}
-use Rattle.std.specs.Prelude.{Option, Some, None, Ok, Err}
-use Rattle.std.specs.Option.{ok_or}
-use Rattle.answer.specs.declared.Refusal.{Refusal}
+use Rattle.std.specs.Prelude.{Option, None, Err}
 use Rattle.passes.specs.declared.Job.{Job}
 use Rattle.passes.specs.declared.Job.TheVariants.{Ends, Slopes}
 use Rattle.passes.specs.Sheet.{knot_between, line_between, left_gap, right_gap, knot_at, line_at}
@@ -23,19 +21,12 @@ module _ (step : State → ℕ → Option State) where
   unfolding run_to
   goes_on i before x e f = ap (advance step i) e ∙ ap (landed i) (sym f)
 
-  -- by what the code makes of a step
-  pub goes_on_by : (i : ℕ) (before x : State) (o : Option State) (e : Refusal) → run_to step i ≡ going before → o ≡ step before i → ok_or o e ≡ Ok x → run_to step (suc i) ≡ going x
-  goes_on_by i before x (Some y) e r f q = goes_on i before (Some y) r f ∙ ap going (let same : y ≡ x = cc in same)
-  goes_on_by i before x None e r f q = cc
-
   pub stays_stuck : (i j : ℕ) → run_to step i ≡ stuck j → (n : ℕ) → i ≤ n → run_to step n ≡ stuck j
   unfolding run_to
   stays_stuck i j e n h = le_ind (λ (m : ℕ). run_to step m ≡ stuck j) e (λ m p f. ap (advance step m) f) n h
 
-  pub stuck_by : (i n : ℕ) (before : State) (o : Option State) (e : Refusal)
-      → run_to step i ≡ going before → o ≡ step before i → ok_or o (stuck_at i) ≡ Err e → i < n → Err e ≡ judged_of (run_to step n)
-  stuck_by i n before (Some y) e r f q h = cc
-  stuck_by i n before None e r f q h = ap Err (let same : e ≡ stuck_at i = cc in same) ∙ sym (ap judged_of (stays_stuck (suc i) i (goes_on i before None r f) n h))
+  pub stuck_here : (i n : ℕ) (before : State) → run_to step i ≡ going before → None ≡ step before i → i < n → Err (stuck_at i) ≡ judged_of (run_to step n)
+  stuck_here i n before e f h = sym (ap judged_of (stays_stuck (suc i) i (goes_on i before None e f) n h))
 
 module _ (step step' : State → ℕ → Option State) (n : ℕ) (same : (before : State) (i : ℕ) → i < n → step before i ≡ step' before i) where
   advance_same : (i : ℕ) → i < n → (r : Run) → advance step i r ≡ advance step' i r

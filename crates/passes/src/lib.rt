@@ -4,7 +4,9 @@
 // alone are solved for, and zeros stand for the slopes.
 #![tactic(auto)]
 
-ghost use Rattle.std.specs.Prelude.{◌≡◌, ◌+◌, ◌≤◌, ◌<◌, pos, length, get_or};
+ghost use Rattle.std.specs.Prelude.{◌≡◌, ◌+◌, ◌≤◌, ◌<◌, pos, length, get_or, IfErr, None};
+ghost use Rattle.answer.specs.Judge.{number_of};
+ghost use Rattle.elimination.specs.Refusal.{number_of_step};
 ghost use Rattle.lines.specs.Lines.{hundredths};
 ghost use Rattle.passes.specs.Sheet.{most, Rising, end_of, knot_between, right_gap, slope_before, slope_after, line_between};
 ghost use Rattle.passes.specs.Jobs.{between_by, step_by, turn_by};
@@ -150,19 +152,21 @@ fn forward_pass(
     ordinates: &[i16],
     slopes: &[i32],
     job: Job,
-    states: &mut [State],
+    states: &mut [State; MOST],
 ) -> Judged
     requires minutes_len_bound { (length minutes.now ≤ most) × (length ordinates.now ≡ length minutes.now) × (length slopes.now ≡ length minutes.now) }
     requires rising { Rising minutes.now }
-    requires room { length states.old ≡ most }
     ensures { Forwarded (step_by minutes.now ordinates.now slopes.now job) (length minutes.now) result states.new }
 {
     let mut before = elimination::start();
     let mut p = rows::empty_gap();
     for i in 0..minutes.len() {
         let g = gap_after(minutes, ordinates, i);
-        before = knot_by(slopes, job, p, g, before, i).ok_or(stuck(i))?;
-        states[i] = before;
+        let Some(state) = knot_by(slopes, job, p, g, before, i) else {
+            return Err(stuck(i));
+        };
+        states[i] = state;
+        before = state;
         p = g;
     }
     Ok(())
@@ -177,8 +181,8 @@ fn pair_before(job: Job, x: State, next: Pair, j: usize) -> Pair
 }
 
 // The slope and the curvature of each knot, in hundredths per minute (squared), zeros behind them: forward, then
-// back. The slopes are read only where they are what is given. The states stand here alone, since they are a third of
-// a fit's stack.
+// back. The number of a refusal is a stuck step's. The slopes are read only where they are what is given. The states
+// stand here alone, since they are a third of a fit's stack.
 pub fn pairs_of(
     minutes: &[u16],
     ordinates: &[i16],
@@ -187,7 +191,8 @@ pub fn pairs_of(
 ) -> Result<[Pair; MOST], Refusal>
     requires minutes_len_bound { (length minutes.now ≤ most) × (length ordinates.now ≡ length minutes.now) × (length slopes.now ≡ length minutes.now) }
     requires rising { Rising minutes.now }
-    ensures { result ≡ passes (step_by minutes.now ordinates.now slopes.now job) (turn_by job) (length minutes.now) }
+    ensures whole { result ≡ passes (step_by minutes.now ordinates.now slopes.now job) (turn_by job) (length minutes.now) }
+    ensures number { IfErr result (λ refusal. number_of refusal.reason ≡ number_of_step None) }
 {
     let n = minutes.len();
     let mut states = [elimination::start(); MOST];

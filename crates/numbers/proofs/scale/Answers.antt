@@ -1,5 +1,5 @@
 -- `numbers::scale` meets its contract. Assumes nothing.
-use Rattle.std.proofs.Common.{◌≡◌, length, arith, rules}
+use Rattle.std.proofs.Common.{◌≡◌, arith, rules}
 use Rattle.front.proofs.Filled.{filled_more}
 use Rattle.numbers.proofs.scale.Goals as goal
 
@@ -14,5 +14,5 @@ loop-k-preserved c =
 pub returns : goal.returns
 returns c =
     let l = c.loop-k in
-    let all : l.k ≡ length c.args.pairs.now = omega arith in
+    let all : l.k ≡ c.args.n = omega arith in
     rw (l.invariant.slopes.is, l.invariant.curvatures.is, all)
