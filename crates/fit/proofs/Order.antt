@@ -18,7 +18,7 @@ use Rattle.passes.specs.Sheet.{most}
 use Rattle.ends.specs.Ends.{ends}
 use Rattle.fit.specs.Fit.{tested, standing, solved, eliminated, card_of, fit_of}
 use Rattle.passes.specs.declared.Job.TheVariants.{Ends}
-use Rattle.fit.specs.Jobs.{solved_by, worked}
+use Rattle.worked.specs.Jobs.{solved_by, worked}
 use Rattle.fit.specs.Promise.{Alike}
 
 pub regroup : {A : Type 0} (a b c d e f g : Verdict) (h : Answer A) → ((a then b then c then d then e then f then g) then h) ≡ ((a then b then c) then (d then e) then f then g then h)

@@ -2,10 +2,10 @@
 -- "Numbers of refusal". Assumes nothing.
 use Rattle.std.specs.Prelude.{ℕ, List, length, ℤ, Float}
 use Rattle.answer.specs.Answer.{Answer, given, Verdict, accepted, ◌then◌, each}
-use Rattle.curve.specs.Kind.{Kind, quintic}
+use Rattle.curve.specs.Kind.{quintic}
 use Rattle.curve.specs.Card.{Card}
 use Rattle.curve.specs.Steps.{codes, stands}
-use Rattle.curve.specs.Orders.{numbers_sound, fit_order}
+use Rattle.curve.specs.Orders.{fit_order}
 use Rattle.knots.specs.Lent.{lent}
 use Rattle.rows.specs.declared.End.{End}
 use Rattle.rows.specs.declared.End.TheVariants.{Free, Both}
@@ -17,10 +17,7 @@ use Rattle.front.specs.Front.{listed}
 use Rattle.passes.specs.Passes.{Solved, pairs_in, verdict_in, passes}
 use Rattle.ends.specs.Ends.{end_by, ends}
 use Rattle.numbers.specs.Numbers.{slope_at, curvature_at}
-
--- a card, where 9 and 10 accept it
-unfoldable pub tested : Kind → Card → Answer Card
-tested K c = numbers_sound K c then given c
+unfoldable pub use Rattle.worked.specs.Jobs.{tested}
 
 module _ (xs : List ℕ) (ys : List ℤ) (left right : End) where
   -- per knot 4, 5, 6; 7

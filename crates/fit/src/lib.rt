@@ -1,21 +1,16 @@
-// Document 01's fit: it tests what it is handed, eliminates, works the numbers out in card units beside the lent lists, tests them, and only then
-// writes them. The order of the tests is that of "Numbers of refusal".
+// Document 01's fit: it tests what it is handed, has the numbers worked out beside the lent lists and tested, and only
+// then writes them. The order of the tests is that of "Numbers of refusal".
 #![tactic(auto)]
 
-ghost use Rattle.std.specs.Prelude.{◌≡◌, ◌≤◌, length, IfOk};
-ghost use Rattle.answer.specs.Answer.{accepted, ◌then◌, each};
+ghost use Rattle.std.specs.Prelude.{◌≡◌, length};
+ghost use Rattle.answer.specs.Answer.{◌then◌};
 ghost use Rattle.answer.specs.Judge.{verdict_of};
 ghost use Rattle.curve.specs.Kind.{quintic};
-ghost use Rattle.curve.specs.Steps.{stands};
-ghost use Rattle.curve.specs.Orders.{numbers_sound};
-ghost use Rattle.passes.specs.Sheet.{most};
 ghost use Rattle.fit.specs.Fit.{standing, eliminated, card_of, tested, fit_of, fit_between, fit_codes, fit};
-ghost use Rattle.fit.specs.Jobs.{kind_by, card_with, worked, handed, numbers_by};
 ghost use Rattle.fit.specs.Promise.{fitted_of, Fits, Alike};
 
-use answer::{Judged, Refusal};
-use knots::{Kind, Lent};
-use numbers::Numbers;
+use answer::Judged;
+use knots::Kind;
 use passes::Job;
 use rows::End;
 
@@ -50,62 +45,6 @@ impl From<Judged> for Fitted {
     }
 }
 
-// ---- either job
-
-// 9; 10.
-fn judge(minutes: &[u16], ordinates: &[i16], slopes: &[i32], job: Job, numbers: &Numbers) -> Judged
-    requires minutes_len_bound { (length minutes.now ≤ most) × (length ordinates.now ≡ length minutes.now) × (length slopes.now ≡ length minutes.now) }
-    requires stand { each (stands quintic minutes.now ordinates.now) 0 (length minutes.now) ≡ accepted }
-    ensures { verdict_of result ≡ numbers_sound (kind_by job) (card_with minutes.now ordinates.now slopes.now job numbers.now) }
-{
-    let n = minutes.len();
-    let curvatures = &numbers.curvatures[..n];
-    match job {
-        Job::Ends(left, right) => lists::numbers_sound(
-            Kind::quintic(),
-            Lent {
-                minutes,
-                ordinates,
-                slopes: &numbers.slopes[..n],
-                curvatures,
-                left: ends::code(left),
-                right: ends::code(right),
-            },
-        ),
-        Job::Slopes => lists::numbers_sound(
-            Kind::sloped(),
-            Lent {
-                minutes,
-                ordinates,
-                slopes,
-                curvatures,
-                left: 0,
-                right: 0,
-            },
-        ),
-    }
-}
-
-// 8; 9; 10: what the knots get, beside the lent lists, with zeros behind the knots, and for slopes that are given.
-pub fn work_out(
-    minutes: &[u16],
-    ordinates: &[i16],
-    slopes: &[i32],
-    job: Job,
-) -> Result<Numbers, Refusal>
-    requires minutes_len_bound { (length minutes.now ≤ most) × (length ordinates.now ≡ length minutes.now) × (length slopes.now ≡ length minutes.now) }
-    requires stand { each (stands quintic minutes.now ordinates.now) 0 (length minutes.now) ≡ accepted }
-    ensures card { handed minutes.now ordinates.now slopes.now job result ≡ worked minutes.now ordinates.now slopes.now job }
-    ensures numbers { IfOk result (λ numbers. numbers ≡ numbers_by minutes.now ordinates.now slopes.now job) }
-{
-    let pairs = passes::pairs_of(minutes, ordinates, slopes, job)?;
-    let numbers = numbers::scale(&pairs[..minutes.len()]);
-    judge(minutes, ordinates, slopes, job, &numbers)?;
-    Ok(numbers)
-}
-
-// ---- between ends
-
 // Per knot 4, 5, 6; 7; 8; 9; 10, and then to the lent lists.
 fn fit_alike(
     minutes: &[u16],
@@ -122,7 +61,7 @@ fn fit_alike(
 {
     knots::stand(minutes, ordinates)?;
     ends::given_ends(minutes.len(), left, right)?;
-    let numbers = work_out(minutes, ordinates, slopes, Job::Ends(left, right))?;
+    let numbers = worked::work_out(minutes, ordinates, slopes, Job::Ends(left, right))?;
     numbers::write(slopes, &numbers.slopes);
     numbers::write(curvatures, &numbers.curvatures);
     Ok(())

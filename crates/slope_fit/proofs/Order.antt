@@ -12,7 +12,7 @@ use Rattle.curve.specs.Steps.{lengths, counted, stands}
 use Rattle.curve.specs.Orders.{numbers_sound, fit_order}
 use Rattle.passes.specs.declared.Job.TheVariants.{Slopes}
 use Rattle.fit.specs.Fit.{tested}
-use Rattle.fit.specs.Jobs.{solved_by, worked}
+use Rattle.worked.specs.Jobs.{solved_by, worked}
 use Rattle.fit.proofs.Order.{regroup}
 use Rattle.slope_fit.specs.SlopesFit.{solved, ranged, standing, eliminated, card_of, slopes_fit}
 

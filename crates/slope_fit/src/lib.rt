@@ -35,7 +35,7 @@ fn fit_alike(minutes: &[u16], ordinates: &[i16], slopes: &[i32], curvatures: &mu
 {
     knots::stand(minutes, ordinates)?;
     in_range(minutes, slopes)?;
-    let numbers = fit::work_out(minutes, ordinates, slopes, Job::Slopes)?;
+    let numbers = worked::work_out(minutes, ordinates, slopes, Job::Slopes)?;
     numbers::write(curvatures, &numbers.curvatures);
     Ok(())
 }

@@ -2,7 +2,7 @@
 use Rattle.std.proofs.Common.{refl, take, sym, ap, ◌∙◌}
 use Rattle.answer.proofs.Chain.{step_refuses, step_passes}
 use Rattle.passes.specs.declared.Job.TheVariants.{Slopes}
-use Rattle.fit.specs.Jobs.{handed}
+use Rattle.worked.specs.Jobs.{handed}
 use Rattle.fit.proofs.Fitting.{fits_along, fits_exit, fits_given}
 use Rattle.slope_fit.proofs.Order.{by_steps}
 use Rattle.slope_fit.proofs.fit_alike.Goals as goal

@@ -1,10 +1,12 @@
--- A fit's elimination, its tests and its card by its job: document 01's, between two ends; or document 02's order 8, by the slopes given. Assumes nothing.
+-- A fit's elimination, its tests and its card by its job: document 01's, between two ends; or document 02's order 8, by
+-- the slopes given. Assumes nothing.
 use Rattle.std.specs.Prelude.{ℕ, List, length, take, ℤ, Result, Ok, Err}
 use Rattle.answer.specs.Answer.{Answer, refused, given, ◌then◌}
 use Rattle.answer.specs.Judge.{number_of}
 use Rattle.answer.specs.declared.Refusal.{Refusal}
 use Rattle.curve.specs.Kind.{Kind, quintic, sloped}
 use Rattle.curve.specs.Card.{Card}
+use Rattle.curve.specs.Orders.{numbers_sound}
 use Rattle.knots.specs.Lent.{lent}
 use Rattle.rows.specs.Equations.{code}
 use Rattle.passes.specs.declared.Job.{Job}
@@ -14,7 +16,10 @@ use Rattle.passes.specs.Passes.{Solved, pairs_in, verdict_in, passes}
 use Rattle.front.specs.Front.{listed}
 use Rattle.numbers.specs.declared.Numbers.{Numbers}
 use Rattle.numbers.specs.Numbers.{slope_at, curvature_at, scaled}
-use Rattle.fit.specs.Fit.{tested}
+
+-- a card, where 9 and 10 accept it
+unfoldable pub tested : Kind → Card → Answer Card
+tested K c = numbers_sound K c then given c
 
 abbrev pub kind_by : Job → Kind
 kind_by (Ends left right) = quintic

@@ -20,7 +20,7 @@ use Rattle.front.specs.Front.{listed}
 use Rattle.front.proofs.Listed.{get_d_listed, listed_same}
 use Rattle.units.specs.Units.{farthest, held}
 use Rattle.units.proofs.Held.{beyond_held, held_within}
-use Rattle.fit.specs.Fit.{tested}
+use Rattle.worked.specs.Jobs.{tested}
 
 -- of n numbers: beyond the same limits, and where they are within them, the same
 module _ (R : ℕ → ℤ) (n i : ℕ) (l : i < n) (limit : ℕ) (near : limit < farthest) where

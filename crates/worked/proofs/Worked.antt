@@ -3,13 +3,11 @@ use Prim.Native.Nat.{ℕ, ◌<◌, ◌≤◌}
 use native.Mathlib.Omega.{arith}
 use mathlib.Core.Path.{◌≡◌, sym, ap, ap₂, ◌∙◌}
 use mathlib.Core.Bool.{true}
-use mathlib.Core.List.{List, ◌++◌}
+use mathlib.Core.List.{List}
 use lib.Dec.{lit<}
-use lib.IntN.{ℤ, pos}
-use lib.ListN.{length, get_or, take, drop, replicate}
-use lib.Seq.{length-take-le, get_or-take}
+use lib.IntN.{ℤ}
+use lib.ListN.{length, get_or}
 use Rattle.std.specs.Prelude.{Ok, Err}
-use Rattle.std.proofs.lemmas.List.{length-take}
 use Rattle.answer.specs.Answer.{Answer, refused, ◌then◌}
 use Rattle.answer.specs.Judge.{number_of}
 use Rattle.answer.specs.declared.Refusal.{Refusal}
@@ -17,7 +15,6 @@ use Rattle.curve.specs.Kind.{quintic, sloped}
 use Rattle.curve.specs.Card.{Card}
 use Rattle.front.specs.Front.{listed}
 use Rattle.front.proofs.Filled.{front_over}
-use Rattle.front.proofs.Listed.{listed_same}
 use Rattle.rows.specs.declared.Pair.{Pair}
 use Rattle.rows.specs.Equations.{code}
 use Rattle.elimination.specs.Refusal.{both_finite}
@@ -28,12 +25,11 @@ use Rattle.passes.specs.Jobs.{step_by, turn_by}
 use Rattle.passes.specs.Back.{no_pair}
 use Rattle.passes.specs.Passes.{Solved, pairs_in, verdict_in, passes}
 use Rattle.passes.proofs.Answers.{pairs_finite}
-use Rattle.units.specs.Units.{units_of, held}
+use Rattle.units.specs.Units.{held}
 use Rattle.numbers.specs.declared.Numbers.{Numbers}
 use Rattle.numbers.specs.Numbers.{slope_at, curvature_at, scaled}
-use Rattle.fit.specs.Fit.{tested}
-use Rattle.fit.specs.Jobs.{kind_by, solved_by, card_by, card_with, worked, numbers_by}
-use Rattle.fit.proofs.Held.{both_held, curvatures_held}
+use Rattle.worked.specs.Jobs.{tested, kind_by, solved_by, card_by, card_with, worked, numbers_by}
+use Rattle.worked.proofs.Held.{both_held, curvatures_held}
 
 module _ (xs : List ℕ) (ys ms : List ℤ) (job : Job) where
   -- 9, 10, of these slopes and curvatures
@@ -57,26 +53,14 @@ module _ (xs : List ℕ) (ys ms : List ℤ) (job : Job) {p : Solved} (is : p ≡
   refused_8 z = sym (ap (tested_of xs ys ms job) (sym is ∙ z))
 
   module _ {pairs : List Pair} (z : p ≡ Ok pairs) where
-    pub front_finite : length xs ≤ most → (k : ℕ) → k < length (take (length xs) pairs) → both_finite (get_or (take (length xs) pairs) k no_pair) ≡ true
-    front_finite few k h =
-        ap both_finite (get_or-take (length xs) pairs k no_pair (omega (arith, length-take (length xs) pairs)))
-        ∙ ap (λ s. both_finite (get_or (pairs_in s) k no_pair)) (sym z ∙ is)
-        ∙ pairs_finite (step_by xs ys ms job) (turn_by job) (length xs) k (omega (arith, length-take (length xs) pairs))
+    pub all_finite : length xs ≤ most → (k : ℕ) → k < length xs → both_finite (get_or pairs k no_pair) ≡ true
+    all_finite few k h =
+        ap (λ s. both_finite (get_or (pairs_in s) k no_pair)) (sym z ∙ is) ∙ pairs_finite (step_by xs ys ms job) (turn_by job) (length xs) k (omega arith)
 
     -- the numbers that were worked out of the pairs
-    pub numbers_are : {x : Numbers} → length xs ≤ length pairs → x ≡ scaled (take (length xs) pairs) (length (take (length xs) pairs)) → x ≡ numbers_by xs ys ms job
+    pub numbers_are : {x : Numbers} → x ≡ scaled pairs (length xs) → x ≡ numbers_by xs ys ms job
     unfolding numbers_by solved_by
-    numbers_are room e =
-        let n = length xs in
-        let front = take n pairs in
-        let behind = drop n (replicate most (pos 0)) in
-        let same : (k : ℕ) → k < n → get_or front k no_pair ≡ get_or pairs k no_pair = λ k h. get_or-take n pairs k no_pair h in
-        e
-        ∙ ap (scaled front) (length-take-le n pairs room)
-        ∙ ap₂ (λ slopes curvatures. record { slopes = slopes ++ behind; curvatures = curvatures ++ behind })
-        (listed_same _ _ n (λ k h. ap (λ v. held (units_of v.s)) (same k h)))
-        (listed_same _ _ n (λ k h. ap (λ v. held (units_of v.c)) (same k h)))
-        ∙ ap (λ s. scaled (pairs_in s) n) (sym z ∙ is)
+    numbers_are e = e ∙ ap (λ s. scaled (pairs_in s) (length xs)) (sym z ∙ is)
 
     -- and the card that they make
     pub worked_out : {x : Numbers} → x ≡ numbers_by xs ys ms job → tested (kind_by job) (card_with xs ys ms job x) ≡ worked xs ys ms job

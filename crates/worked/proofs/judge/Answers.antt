@@ -1,12 +1,12 @@
--- `fit::judge` meets its contract. Assumes nothing.
+-- `worked::judge` meets its contract. Assumes nothing.
 use Rattle.std.proofs.Common.{ℕ, length, take, sym, ap, ap₂, ◌∙◌}
 use Rattle.curve.specs.Card.{Card}
 use Rattle.curve.specs.Orders.{numbers_sound}
 use Rattle.knots.specs.Kinds.{kind_of}
 use Rattle.knots.specs.Lent.{lent}
 use Rattle.knots.proofs.Carried.{quintic_is, sloped_is}
-use Rattle.fit.specs.Jobs.{kind_by, card_with}
-use Rattle.fit.proofs.judge.Goals as goal
+use Rattle.worked.specs.Jobs.{kind_by, card_with}
+use Rattle.worked.proofs.judge.Goals as goal
 
 pub returns-in-Ends : goal.returns-in-Ends
 returns-in-Ends c =
