@@ -144,9 +144,10 @@ use Rattle.numbers.proofs.scale.Reads as scale
 use Rattle.numbers.proofs.write.Reads as write-numbers
 use Rattle.fit.specs.declared.Fitted.{Fitted}
 use Rattle.fit.specs.Promise.{fitted_of, Fits}
-use Rattle.fit.proofs.Outcome.{one_fit, one_work}
+use Rattle.worked.proofs.Outcome.{one_work}
+use Rattle.worked.proofs.work_out.Reads as work_out
+use Rattle.fit.proofs.Outcome.{one_fit}
 use Rattle.fit.proofs.FittedFromJudged.from.Reads as fitted-judged
-use Rattle.fit.proofs.work_out.Reads as work_out
 use Rattle.fit.proofs.fit_into.Reads as fit_into
 use Rattle.fit.proofs.fit_between.Reads as fit_between
 use Rattle.fit.proofs.fit_codes.Reads as fit_codes
@@ -616,7 +617,7 @@ pub lines : Once hundredths.Post × Once Line-of.Post × Once line-eliminate.Pos
 lines = (equation _ _, equation _ _, equation _ _, equation _ _)
 
 pub passes : Once pairs_of.Post × Once units_of.Post × Once scale.Post × Lent write-numbers.Post (λ s. s.0.now)
-passes = (equation _ _, equation _ _, equation _ _, equation _ _)
+passes = (with_more _ _ (equation _ _), equation _ _, equation _ _, equation _ _)
 
 pub ends : Once code.Post × Once end_by.Post × Once given-ends.Post
 ends = (equation _ _, equation _ _, judgement _)
