@@ -302,9 +302,9 @@ fn translate() {
     };
     let head = HEAD.replace("WHAT", &what).replace("SUM", &option("--sum").unwrap_or_default());
     let posix = if header.is_none() { POSIX } else { "" };
-    let step = if steps { STEP } else { "" };
+    let manner = if steps { STEP } else { FIRST };
     print!(
-        "{head}{posix}{STANDARD}{includes}{TESTS}{step}\n{}\n{}{}{}\n{}\n",
+        "{head}{posix}{STANDARD}{includes}{TESTS}{manner}\n{}\n{}{}{}\n{}\n",
         out.types.text(),
         out.helpers.text(),
         out.tables,
@@ -327,6 +327,8 @@ const STANDARD: &str =
 const TESTS: &str = include_str!("tests.txt");
 
 const STEP: &str = include_str!("step.txt");
+
+const FIRST: &str = include_str!("first.txt");
 
 /// A deep term asks for a deep stack.
 fn main() {
