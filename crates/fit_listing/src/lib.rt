@@ -14,7 +14,7 @@ fn list_fit(
     ordinates: &[i16],
     slopes: &mut [i32],
     curvatures: &mut [i32],
-    faults: &[Option<u8>],
+    faults: &[Option<u8>; Gathered::MOST],
     text: &mut [u8],
 ) -> usize
     requires ordinates_len { (length ordinates.now ≡ length minutes.now) × (length slopes.old ≡ length minutes.now) × (length curvatures.old ≡ length minutes.now) }
@@ -53,7 +53,7 @@ pub fn list_sheet(sheet: Gathered, text: &mut [u8]) -> usize
         &ordinates[..n],
         &mut slopes[..n],
         &mut curvatures[..n],
-        &faults[..n],
+        &faults,
         text,
     )
 }

@@ -53,19 +53,23 @@ fn listed_line(
     }
 }
 
-fn faults_at(faults: &[Option<u8>], i: usize) -> Option<u8>
+// The faults come as an array of any length, for no list is of Options; a knot behind its end is no log's.
+fn faults_at<const N: usize>(faults: &[Option<u8>; N], i: usize) -> Option<u8>
     ensures { result ≡ get_or faults.now i no_log }
 {
-    faults.get(i).copied().flatten()
+    if i < N {
+        return faults[i];
+    }
+    None
 }
 
-fn knot_lines(
+fn knot_lines<const N: usize>(
     text: &mut [u8],
     minutes: &[u16],
     ordinates: &[i16],
     slopes: &[i32],
     curvatures: &[i32],
-    faults: &[Option<u8>],
+    faults: &[Option<u8>; N],
 ) -> usize
     requires ordinates_len { (length ordinates.now ≡ length minutes.now) × (length slopes.now ≡ length minutes.now) × (length curvatures.now ≡ length minutes.now) }
     requires minutes_in_bounds { longest_line * length minutes.now ≤ length text.old }
@@ -106,14 +110,14 @@ pub fn refused_line(text: &mut [u8], at: usize, number: u32, place: u32) -> usiz
 }
 
 // The whole listing at the front of a buffer, and its length, by the number and place that a struct has which C receives: the line of a knot has at most 60 bytes, the last line at most 33.
-pub fn list(
+pub fn list<const N: usize>(
     number: u32,
     place: u32,
     minutes: &[u16],
     ordinates: &[i16],
     slopes: &[i32],
     curvatures: &[i32],
-    faults: &[Option<u8>],
+    faults: &[Option<u8>; N],
     text: &mut [u8],
 ) -> usize
     requires ordinates_len { (length ordinates.now ≡ length minutes.now) × (length slopes.now ≡ length minutes.now) × (length curvatures.now ≡ length minutes.now) }

@@ -704,9 +704,9 @@ count_listed = putting _ _ _ _
 pub sheet_listed : Once list-sheet.Post × Lent list-sheet.Post (λ s. s.1.0.now)
 sheet_listed = putting _ _ _ _
 
--- and here the eighth
-pub listed : Once list.Post × Lent list.Post (λ s. s.1.1.1.1.1.1.1.0.now)
-listed = putting _ _ _ _
+-- and here the eighth, however many places the array of faults has
+pub listed : (N : ℕ) (fits : _) → Once (list.Post N fits) × Lent (list.Post N fits) (λ s. s.1.1.1.1.1.1.1.0.now)
+listed N fits = putting _ _ _ _
 
 -- ---- what the command reads and says
 

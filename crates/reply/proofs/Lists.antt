@@ -18,17 +18,11 @@ module _ {a : Gathered} (r : Roomy a) where
   pub ordinates_hold : a.knots ≤ length a.ordinates
   ordinates_hold = omega arith
 
-  pub faults_hold : a.knots ≤ length a.faults
-  faults_hold = omega arith
-
   pub as_many_minutes : a.knots ≡ length (take a.knots a.minutes)
   as_many_minutes = sym (length-take-le a.knots a.minutes minutes_hold)
 
   pub as_many_ordinates : a.knots ≡ length (take a.knots a.ordinates)
   as_many_ordinates = sym (length-take-le a.knots a.ordinates ordinates_hold)
-
-  pub as_many_faults : a.knots ≡ length (take a.knots a.faults)
-  as_many_faults = sym (length-take-le a.knots a.faults faults_hold)
 
   pub as_many_zeros : a.knots ≡ length (take a.knots (replicate most (pos 0)))
   as_many_zeros = sym (length-take-le a.knots (replicate most (pos 0)) r.few)

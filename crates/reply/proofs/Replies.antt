@@ -13,6 +13,7 @@ use Rattle.curve.specs.Card.{Card}
 use Rattle.fit.specs.declared.Fitted.{Fitted}
 use Rattle.fit.specs.Promise.{slopes_after, curvatures_after, Fits}
 use Rattle.knots.specs.Lent.{lent}
+use Rattle.listing.proofs.Plain.{first_faults}
 use Rattle.rows.specs.declared.End.{End}
 use Rattle.mend.specs.declared.Change.{Change}
 use Rattle.mend.specs.declared.Plan.{Plan}
@@ -44,6 +45,11 @@ module _ (K : Kind) (number place : ℕ) (c : Card) (faults : List (Option ℕ))
   unfolding reply_of
   replies_done z = rw (eq-eqb number 0 z)
 
+  -- it reads the faults of its own knots alone
+  pub replies_first_faults : {n : ℕ} → n ≡ length c.minutes → reply_of K number place c faults lines card ≡ reply_of K number place c (take n faults) lines card
+  unfolding reply_of listing_of
+  replies_first_faults e = rw (first_faults 0 0 c.minutes c.ordinates c.slopes c.curvatures faults e)
+
 -- the fit's number and place, its numbers where they were lent, and the codes of its ends
 pub replies_fitted : (K : Kind) {f : Answer Card} {ms Ms ms' Ms' : List ℤ} {r : Fitted} → Fits f ms Ms ms' Ms' r → {a b left right : ℕ} → a ≡ left → b ≡ right
     → (xs : List ℕ) (ys : List ℤ) (faults : List (Option ℕ)) (lines card : List ℕ)
@@ -72,6 +78,12 @@ replies_slopes b left right slopes xs e ys ms Ms faults lines card = ap (λ n. c
     same : (b : Bool) → cond b (by_slopes (take (length xs) slopes)) (fit_reply left right) xs ys ms Ms faults lines card ≡ cond b (slopes_reply slopes) (fit_reply left right) xs ys ms Ms faults lines card
     same true = refl
     same false = refl
+
+-- so the whole array of a sheet's faults may be handed on
+pub sheet_first_faults : (b : Bool) (left right : End) (slopes : List ℤ) (xs : List ℕ) {n : ℕ} → n ≡ length xs → (ys ms Ms : List ℤ) (faults : List (Option ℕ)) (lines card : List ℕ)
+    → cond b (slopes_reply slopes) (fit_reply left right) xs ys ms Ms faults lines card ≡ cond b (slopes_reply slopes) (fit_reply left right) xs ys ms Ms (take n faults) lines card
+sheet_first_faults true left right slopes xs e ys ms Ms faults lines card = replies_first_faults _ _ _ _ faults lines card e
+sheet_first_faults false left right slopes xs e ys ms Ms faults lines card = replies_first_faults _ _ _ _ faults lines card e
 
 module _ (to-knots : Sheet → ToKnots) (s logs : List ℕ) {r : Result Sheet Blame} (card : List ℕ) where
   pub replies_wrong : {b : Blame} → r ≡ Err b → {to to' : List ℕ} {q : Answered} → Answers (complaint s b []) to to' [] q

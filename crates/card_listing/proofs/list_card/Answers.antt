@@ -4,8 +4,7 @@ use mathlib.Core.Path.{◌≡◌, sym, ap, ◌∙◌}
 use mathlib.Core.List.{[]}
 use native.Mathlib.Omega.{arith}
 use lib.ListN.{length}
-use Rattle.answer.specs.Answer.{accepted, refused}
-use Rattle.answer.specs.Judge.{verdict_of}
+use Rattle.answer.specs.Answer.{accepted}
 use Rattle.answer.proofs.Chain.{step_accepts, step_refused}
 use Rattle.curve.specs.Kind.{quintic}
 use Rattle.curve.specs.Card.{Card, knots}
@@ -36,22 +35,18 @@ module _ (c : After-lent-held) where
   unfolding printed card_listing
   printed_is = ap (λ (k : Card). listing 0 0 k.minutes k.ordinates k.slopes k.curvatures []) lent_is ∙ ap (λ v. card_listing v (card_of c.args.card.now)) (sym own_accepts)
 
-pub list-length-requires-in-Ok-clause-ordinates_len : goal.list-length-requires-in-Ok-clause-ordinates_len
-unfolding knots
-list-length-requires-in-Ok-clause-ordinates_len c =
-    let h = (goal.at.list-length-requires-in-Ok-clause-ordinates_len c).After-lent-held in
-    let g = accepted_good c.args.card.now (own_accepts h) in
-    let e = lent_is h in
-    let n = sym (ap (λ (k : Card). length k.minutes) e) in
-    (ap (λ (k : Card). length k.ordinates) e ∙ g.ys ∙ n, ap (λ (k : Card). length k.slopes) e ∙ g.ms ∙ n, ap (λ (k : Card). length k.curvatures) e ∙ g.Ms ∙ n)
-
-pub list-length-requires-in-Ok-clause-minutes_len_bound : goal.list-length-requires-in-Ok-clause-minutes_len_bound
+pub list-length-requires-in-Ok : goal.list-length-requires-in-Ok
 unfolding quintic knots
-list-length-requires-in-Ok-clause-minutes_len_bound c =
-    let h = (goal.at.list-length-requires-in-Ok-clause-minutes_len_bound c).After-lent-held in
+list-length-requires-in-Ok c =
+    let h = (goal.at.list-length-requires-in-Ok c).After-lent-held in
+    let g = accepted_good c.args.card.now (own_accepts h) in
     let few = (accepted_count c.args.card.now (own_accepts h)).many in
-    let n = ap (λ (k : Card). length k.minutes) (lent_is h) in
-    (omega (arith, few, n), omega (arith, few, n, c.requires))
+    let e = lent_is h in
+    let n = ap (λ (k : Card). length k.minutes) e in
+    let ordinates = ap (λ (k : Card). length k.ordinates) e ∙ g.ys ∙ sym n in
+    let slopes = ap (λ (k : Card). length k.slopes) e ∙ g.ms ∙ sym n in
+    let curvatures = ap (λ (k : Card). length k.curvatures) e ∙ g.Ms ∙ sym n in
+    (omega arith, ((ordinates, slopes, curvatures), (omega (arith, few, n), omega (arith, few, n, c.requires))))
 
 pub returns-in-Err-clause-put : goal.returns-in-Err-clause-put
 unfolding printed card_listing

@@ -8,7 +8,7 @@ use lib.Seq.{length-take-le}
 use Rattle.listing.proofs.Lengths.{length_refused_line}
 use Rattle.gather.specs.declared.Gathered.{Gathered}
 use Rattle.gather.specs.Gathered.{most}
-use Rattle.fit_listing.proofs.Listings.{listed_refused, listed_knots}
+use Rattle.fit_listing.proofs.Listings.{listed_refused, listed_of_all_faults}
 use borrow.Author.Rules.{rules}
 use Rattle.fit_listing.proofs.list_sheet.Goals as goal
 use Rattle.fit_listing.proofs.list_sheet.Goals.{Else-sheet-ne0, Start}
@@ -17,14 +17,12 @@ use Rattle.fit_listing.proofs.list_sheet.Goals.{Else-sheet-ne0, Start}
 record Roomy (a : Gathered) : Type 0 where
   minutes : a.knots ≤ length a.minutes
   ordinates : a.knots ≤ length a.ordinates
-  faults : a.knots ≤ length a.faults
 
 room : (c : Start) → Roomy c.args.sheet
 room c =
     let x : length c.args.sheet.minutes ≡ most = search rules in
     let y : length c.args.sheet.ordinates ≡ most = search rules in
-    let f : length c.args.sheet.faults ≡ most = search rules in
-    record { minutes = omega (arith, x, c.requires.0); ordinates = omega (arith, y, c.requires.0); faults = omega (arith, f, c.requires.0) }
+    record { minutes = omega (arith, x, c.requires.0); ordinates = omega (arith, y, c.requires.0) }
 
 pub refused_line-requires : goal.refused_line-requires
 refused_line-requires c =
@@ -52,12 +50,6 @@ slice_bounds-list_fit-end-3 c = sym (length-take-le _ (replicate most (pos 0)) c
 pub slice_bounds-list_fit-end-4 : goal.slice_bounds-list_fit-end-4
 slice_bounds-list_fit-end-4 c = sym (length-take-le _ (replicate most (pos 0)) c.requires.0)
 
-pub slice_bounds-faults-end : goal.slice_bounds-faults-end
-slice_bounds-faults-end c = (room (goal.at.slice_bounds-faults-end c).Start).faults
-
-pub slice_bounds-list_fit-end-5 : goal.slice_bounds-list_fit-end-5
-slice_bounds-list_fit-end-5 c = sym (length-take-le _ _ (room (goal.at.slice_bounds-list_fit-end-5 c).Start).faults)
-
 pub list_fit-requires : goal.list_fit-requires
 list_fit-requires c =
     let q = (goal.at.list_fit-requires c).Start in
@@ -73,4 +65,5 @@ returns c =
     let q = (goal.at.returns c).Else-sheet-ne0 in
     let a = q.args.sheet in
     let z : a.number ≡ 0 = omega (arith, q.if-sheet-ne0.false) in
-    rw (listed_knots a z) c.list_fit.ensures
+    let n = sym (length-take-le a.knots a.minutes (room (goal.at.Else-sheet-ne0 q).Start).minutes) in
+    rw (listed_of_all_faults a z n) c.list_fit.ensures

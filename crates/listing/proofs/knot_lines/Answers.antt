@@ -13,23 +13,24 @@ use Rattle.decimal.proofs.Puts.{put_none, put_then, same_room}
 use Rattle.decimal.proofs.Widths.{wide, widened}
 use Rattle.listing.proofs.Lengths.{length_listed_line}
 use borrow.Author.Rules.{rules}
+use Rattle.listing.proofs.knot_lines.Given as given
 use Rattle.listing.proofs.knot_lines.Goals as goal
 use Rattle.listing.proofs.knot_lines.Goals.{After-faults_at, At-loop-i}
 
 pub loop-i-init : goal.loop-i-init
 unfolding lines
-loop-i-init c = record { put = put_none (omega arith); short = omega arith }
+loop-i-init g c = record { put = put_none (omega arith); short = omega arith }
 
 -- the numbers of the lists, as a call passes them on
-line_is : (c : After-faults_at)
-    → (let l = (goal.at.After-faults_at c).At-loop-i in
+line_is : (g : given.Over) (c : After-faults_at g)
+    → (let l = (goal.at.After-faults_at g c).At-loop-i in
     let a = l.args in
     let i = l.loop-i.i in
     listed_line (get_or a.minutes.now i 0) (to_z w32 (of_z w32 (to_z w16 (of_z w16 (get_or a.ordinates.now i (pos 0)))))) (to_z w32 (of_z w32 (get_or a.slopes.now i (pos 0)))) (to_z w32 (of_z w32 (get_or a.curvatures.now i (pos 0)))) c.faults_at.result
     ≡ line_of a.minutes.now a.ordinates.now a.slopes.now a.curvatures.now a.faults.now i)
 unfolding line_of
-line_is c =
-    let l = (goal.at.After-faults_at c).At-loop-i in
+line_is g c =
+    let l = (goal.at.After-faults_at g c).At-loop-i in
     let a = l.args in
     let i = l.loop-i.i in
     let y = widened w16 w32 tt {z = get_or a.ordinates.now i (pos 0)} (record { sfits = c.listed_line-arg-in-loop-i-1.given }) in
@@ -37,12 +38,12 @@ line_is c =
     let M = passed w32 (get_or a.curvatures.now i (pos 0)) c.listed_line-arg-in-loop-i-3-1.given in
     rw (y, m, M, c.faults_at.ensures)
 
-line_short : (c : After-faults_at)
-    → (let l = (goal.at.After-faults_at c).At-loop-i in
+line_short : (g : given.Over) (c : After-faults_at g)
+    → (let l = (goal.at.After-faults_at g c).At-loop-i in
     let a = l.args in
     length (line_of a.minutes.now a.ordinates.now a.slopes.now a.curvatures.now a.faults.now l.loop-i.i) ≤ longest_line)
 unfolding line_of
-line_short c =
+line_short g c =
     let x = c.shared_slice_known-in-loop-i-1.given c.loop-i.i in
     let y = c.listed_line-arg-in-loop-i-1.given in
     let m = c.listed_line-arg-in-loop-i-2-1.given in
@@ -50,28 +51,28 @@ line_short c =
     length_listed_line _ _ _ _ _ (omega arith) (record { sfits = omega arith }) (record { sfits = m }) (record { sfits = M }) (rw (sym c.faults_at.ensures) (let h = c.faults_at.type_inv in search rules))
 
 pub overflow_cast-ordinates : goal.overflow_cast-ordinates
-overflow_cast-ordinates c =
-    let l = (goal.at.overflow_cast-ordinates c).At-loop-i in
+overflow_cast-ordinates g c =
+    let l = (goal.at.overflow_cast-ordinates g c).At-loop-i in
     wide w16 w32 tt {z = get_or l.args.ordinates.now l.loop-i.i (pos 0)} (record { sfits = c.listed_line-arg-in-loop-i-1.given })
 
 pub listed_line-next-requires : goal.listed_line-next-requires
-listed_line-next-requires c =
-    let l = (goal.at.listed_line-next-requires c).At-loop-i in
+listed_line-next-requires g c =
+    let l = (goal.at.listed_line-next-requires g c).At-loop-i in
     let i = l.loop-i.invariant in
-    rw (line_is c) (omega (arith, line_short c, i.short, same_room i.put, l.requires.minutes_in_bounds))
+    rw (line_is g c) (omega (arith, line_short g c, i.short, same_room i.put, l.requires.minutes_in_bounds))
 
 pub loop-i-preserved : goal.loop-i-preserved
 unfolding lines
-loop-i-preserved c =
-    let k = (goal.at.loop-i-preserved c).After-faults_at in
+loop-i-preserved g c =
+    let k = (goal.at.loop-i-preserved g c).After-faults_at in
     let i = k.loop-i.invariant in
-    let p = rw (line_is k) at c.listed_line-next.ensures in
-    record { put = rw add-one (put_then i.put p); short = omega (arith, line_short k, i.short, p.behind) }
+    let p = rw (line_is g k) at c.listed_line-next.ensures in
+    record { put = rw add-one (put_then i.put p); short = omega (arith, line_short g k, i.short, p.behind) }
 
 pub shape_of-text : goal.shape_of-text
-shape_of-text c = same_room c.loop-i.invariant.put
+shape_of-text g c = same_room c.loop-i.invariant.put
 
 pub returns : goal.returns
-returns c =
+returns g c =
     let e : c.loop-i.i ≡ length c.args.minutes.now = omega arith in
     rw e at c.loop-i.invariant

@@ -8,38 +8,38 @@ use Rattle.listing.proofs.list.Goals as goal
 use Rattle.listing.proofs.list.Goals.{After-knot_lines-next, After-refused_line, Start}
 
 pub refused_line-requires : goal.refused_line-requires
-refused_line-requires c =
-    let a = (goal.at.refused_line-requires c).Start in
+refused_line-requires g c =
+    let a = (goal.at.refused_line-requires g c).Start in
     let p = a.requires.minutes_len_bound in
     omega (arith, length_refused_line a.args.number a.args.place (omega arith) (omega arith))
 
 pub shape_of-text-then-number-ne0 : goal.shape_of-text-then-number-ne0
-shape_of-text-then-number-ne0 c = same_room c.refused_line.ensures
+shape_of-text-then-number-ne0 g c = same_room c.refused_line.ensures
 
 pub returns-then-number-ne0 : goal.returns-then-number-ne0
-returns-then-number-ne0 c =
-    let q = (goal.at.returns-then-number-ne0 c).After-refused_line in
+returns-then-number-ne0 g c =
+    let q = (goal.at.returns-then-number-ne0 g c).After-refused_line in
     let a = q.args in
     rw (refused_listing a.number a.place a.minutes.now a.ordinates.now a.slopes.now a.curvatures.now a.faults.now q.if-number-ne0.true)
     q.refused_line.ensures
 
 pub knot_lines-next-requires : goal.knot_lines-next-requires
-knot_lines-next-requires c =
-    let a = (goal.at.knot_lines-next-requires c).Start in
-    record { ordinates_len = a.requires.ordinates_len; minutes_in_bounds = omega (arith, a.requires.minutes_len_bound) }
+knot_lines-next-requires g c =
+    let a = (goal.at.knot_lines-next-requires g c).Start in
+    (omega arith, (a.requires.ordinates_len, omega (arith, a.requires.minutes_len_bound)))
 
 pub accepted_line-requires : goal.accepted_line-requires
-accepted_line-requires c =
-    let a = (goal.at.accepted_line-requires c).Start in
+accepted_line-requires g c =
+    let a = (goal.at.accepted_line-requires g c).Start in
     let l = c.knot_lines-next.ensures in
     omega (arith, a.requires.minutes_len_bound, l.short, same_room l.put, length_ok_line (length a.args.minutes.now) a.requires.minutes_len_bound.0)
 
 pub shape_of-text : goal.shape_of-text
-shape_of-text c = same_room c.accepted_line.ensures ∙ same_room c.knot_lines-next.ensures.put
+shape_of-text g c = same_room c.accepted_line.ensures ∙ same_room c.knot_lines-next.ensures.put
 
 pub returns : goal.returns
-returns c =
-    let q = (goal.at.returns c).After-knot_lines-next in
+returns g c =
+    let q = (goal.at.returns g c).After-knot_lines-next in
     let a = q.args in
     let n : a.number ≡ 0 = omega (arith, q.if-number-ne0.false) in
     rw (accepted_listing a.number a.place a.minutes.now a.ordinates.now a.slopes.now a.curvatures.now a.faults.now n)

@@ -7,8 +7,8 @@ use Rattle.text.specs.Sheet.{sheet}
 use Rattle.text.proofs.Room.{Roomy as SheetRoomy, roomy as sheet-roomy}
 use Rattle.reply.specs.Reply.{sheet_reply}
 use Rattle.reply.proofs.Gathers.{Roomy, roomy}
-use Rattle.reply.proofs.Lists.{minutes_hold, ordinates_hold, faults_hold, list_holds, as_many_minutes, as_many_ordinates, as_many_faults, as_many_zeros, as_many_of, few_minutes, one_length}
-use Rattle.reply.proofs.Replies.{answers_as, replies_wrong, replies_log, replies_slopes, replies_knots}
+use Rattle.reply.proofs.Lists.{minutes_hold, ordinates_hold, list_holds, as_many_minutes, as_many_ordinates, as_many_zeros, as_many_of, few_minutes, one_length}
+use Rattle.reply.proofs.Replies.{answers_as, replies_wrong, replies_log, replies_slopes, sheet_first_faults, replies_knots}
 use Rattle.reply.proofs.answer.Goals as goal
 use Rattle.reply.proofs.answer.Goals.{After-gathered-all, In-Ok}
 
@@ -65,12 +65,6 @@ slice_bounds-curvatures-end c = (room (goal.at.slice_bounds-curvatures-end c).Af
 pub slice_bounds-sheet_lists-end-5 : goal.slice_bounds-sheet_lists-end-5
 slice_bounds-sheet_lists-end-5 c = as_many_zeros (room (goal.at.slice_bounds-sheet_lists-end-5 c).After-gathered-all)
 
-pub slice_bounds-faults-end : goal.slice_bounds-faults-end
-slice_bounds-faults-end c = faults_hold (room (goal.at.slice_bounds-faults-end c).After-gathered-all)
-
-pub slice_bounds-sheet_lists-end-6 : goal.slice_bounds-sheet_lists-end-6
-slice_bounds-sheet_lists-end-6 c = as_many_faults (room (goal.at.slice_bounds-sheet_lists-end-6 c).After-gathered-all)
-
 pub sheet_lists-requires : goal.sheet_lists-requires
 sheet_lists-requires c =
     let g = (goal.at.sheet_lists-requires c).After-gathered-all in
@@ -88,5 +82,6 @@ returns c =
     let accepted : g.gathered-all.result.number ≡ 0 = omega (arith, c.if-all-ne0.false) in
     answers_as
     (replies_slopes a.sloped g.args.left g.args.right a.slopes _ (as_many_minutes (room g)) _ _ _ _ _ _
+    ∙ sheet_first_faults a.sloped g.args.left g.args.right a.slopes _ (as_many_minutes (room g)) _ _ _ _ _ _
     ∙ replies_knots (sheet_reply g.args.left g.args.right) g.args.text.now _ g.args.card.now (read (goal.at.After-gathered-all g).In-Ok) g.gathered-all.ensures accepted)
     c.sheet_lists.ensures

@@ -7,8 +7,8 @@ use Rattle.text.specs.Sheet.{sheet}
 use Rattle.text.proofs.Room.{Roomy as SheetRoomy, roomy as sheet-roomy}
 use Rattle.reply.specs.Mending.{mend_reply, lines_of}
 use Rattle.reply.proofs.Gathers.{Roomy, roomy}
-use Rattle.reply.proofs.Lists.{minutes_hold, ordinates_hold, faults_hold, as_many_minutes, as_many_ordinates, as_many_faults, as_many_zeros, few_minutes, one_length}
-use Rattle.reply.proofs.Replies.{answers_as, replies_wrong, replies_log, replies_knots, plans_nothing, plans_log, plans_knots}
+use Rattle.reply.proofs.Lists.{minutes_hold, ordinates_hold, as_many_minutes, as_many_ordinates, as_many_zeros, few_minutes, one_length}
+use Rattle.reply.proofs.Replies.{answers_as, replies_first_faults, replies_wrong, replies_log, replies_knots, plans_nothing, plans_log, plans_knots}
 use Rattle.reply.proofs.mend.Goals as goal
 use Rattle.reply.proofs.mend.Goals.{After-gathered-all, In-Ok}
 
@@ -72,12 +72,6 @@ slice_bounds-curvatures-end c = (room (goal.at.slice_bounds-curvatures-end c).Af
 pub slice_bounds-mend_lists-end-4 : goal.slice_bounds-mend_lists-end-4
 slice_bounds-mend_lists-end-4 c = as_many_zeros (room (goal.at.slice_bounds-mend_lists-end-4 c).After-gathered-all)
 
-pub slice_bounds-faults-end : goal.slice_bounds-faults-end
-slice_bounds-faults-end c = faults_hold (room (goal.at.slice_bounds-faults-end c).After-gathered-all)
-
-pub slice_bounds-mend_lists-end-5 : goal.slice_bounds-mend_lists-end-5
-slice_bounds-mend_lists-end-5 c = as_many_faults (room (goal.at.slice_bounds-mend_lists-end-5 c).After-gathered-all)
-
 pub mend_lists-requires : goal.mend_lists-requires
 mend_lists-requires c =
     let r = room (goal.at.mend_lists-requires c).After-gathered-all in record { ordinates_len = one_length r; minutes_len_bound = (few_minutes r, c.requires.1) }
@@ -89,7 +83,7 @@ returns c =
     let accepted : g.gathered-all.result.number ≡ 0 = omega (arith, c.if-all-ne0.false) in
     let m = c.mend_lists.ensures in
     record {
-      answers = answers_as (replies_knots (λ a. mend_reply) g.args.text.now _ g.args.card.now (read o) g.gathered-all.ensures accepted) m.answers;
+      answers = answers_as (replies_first_faults _ _ _ _ _ _ _ (as_many_minutes (room g)) ∙ replies_knots (λ a. mend_reply) g.args.text.now _ g.args.card.now (read o) g.gathered-all.ensures accepted) m.answers;
       changes = m.changes ∙ plans_knots _ (read o) g.gathered-all.ensures accepted;
       lines = m.lines ∙ its_lines o;
     }
