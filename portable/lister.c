@@ -1,6 +1,6 @@
 /* lister in portable C11. This file is written by portable/write and not by hand: it is the MIR of the crate lister
    as C, and that MIR is what the prover has proved. SHA-256 of the MIR:
-   ef8a2ade8f520ea914a0c9aaf9e5200c9dad4c9ade6744419347d653d2543cec
+   afe7f7ac6e78515cd45217fd47ab4f4ea53a078deb72451c03d9cddf09b2ca56
    Not proved: this translation and the C compiler; docs/TRUST.md says what was compared, and where.
 
    Names are the sources'. An integer is its bits, so it is unsigned, and s64(x) is the signed number of x's bits. A list
@@ -37,6 +37,12 @@
 _Static_assert(FLT_RADIX == 2 && DBL_MANT_DIG == 53 && DBL_MAX_EXP == 1024 && DBL_MIN_EXP == -1021, "double is binary64");
 _Static_assert(CHAR_BIT == 8 && sizeof(bool) == 1 && sizeof(int) >= 4 && sizeof(size_t) >= 4, "the sizes of integers");
 
+/* The command compiles this file when it is first run. GCC's second level takes a third longer than the first, and what
+   the program's speed has of it are these five steps. */
+#if defined __GNUC__ && !defined __clang__
+#pragma GCC optimize ("O1", "fp-contract=off", "inline-small-functions", "inline-functions", "tree-loop-distribute-patterns", "cse-follow-jumps", "ipa-ra")
+#endif
+
 enum { answer_Reason_FewKnots, answer_Reason_ManyKnots, answer_Reason_OddLengths, answer_Reason_NotRising, answer_Reason_WideGap, answer_Reason_FarOrdinate, answer_Reason_UnfitEnd, answer_Reason_Stuck, answer_Reason_OutOfRange, answer_Reason_Jump, answer_Reason_Outside, answer_Reason_Meaningless, answer_Reason_NoGoodByte, answer_Reason_BadRecord, answer_Reason_UnknownCode, answer_Reason_LogLength, answer_Reason_Stranded, answer_Reason_FewPlaces, answer_Reason_LateMiddle, answer_Reason_NoRoom, answer_Reason_FullBook, answer_Reason_UnsortedRoom, answer_Reason_FewGoodBytes, answer_Reason_ManyValues, answer_Reason_UnfitParts, answer_Reason_ShortBuffer };
 typedef struct answer_Reason answer_Reason;
 typedef struct answer_Refusal answer_Refusal;
@@ -68,11 +74,6 @@ typedef struct core_slots_Slots_u8 core_slots_Slots_u8;
 typedef struct tuple_Slots_u8_unit_unit tuple_Slots_u8_unit_unit;
 typedef struct array_u8_4 array_u8_4;
 typedef struct array_u8_2 array_u8_2;
-enum { core_option_Option_Option_u8_None, core_option_Option_Option_u8_Some };
-typedef struct core_option_Option_Option_u8 core_option_Option_Option_u8;
-enum { core_option_Option_ref_Option_u8_None, core_option_Option_ref_Option_u8_Some };
-typedef struct core_option_Option_ref_Option_u8 core_option_Option_ref_Option_u8;
-typedef struct list_core_option_Option_u8 list_core_option_Option_u8;
 typedef struct array_u8_4096 array_u8_4096;
 typedef struct jumps_Span jumps_Span;
 typedef struct jumps_Spans jumps_Spans;
@@ -247,27 +248,6 @@ struct array_u8_2 {
     uint8_t e[2];
 };
 
-/* core::option::Option<Option<u8>> */
-struct core_option_Option_Option_u8 {
-    uint8_t tag;
-    struct {
-        core_option_Option_u8 f0;
-    } Some;
-};
-
-/* core::option::Option<ref_Option<u8>> */
-struct core_option_Option_ref_Option_u8 {
-    uint8_t tag;
-    struct {
-        const core_option_Option_u8 *f0;
-    } Some;
-};
-
-struct list_core_option_Option_u8 {
-    const core_option_Option_u8 *at;
-    uint64_t length;
-};
-
 struct array_u8_4096 {
     uint8_t e[4096];
 };
@@ -372,7 +352,6 @@ static core_result_Result_unit_Refusal card_bytes_head_due(list_u8 list, uint16_
 static core_result_Result_unit_Refusal card_bytes_knots_due(list_u8 list, uint64_t n);
 static core_result_Result_unit_Refusal card_bytes_records_due(list_u8 list, uint64_t n);
 static card_listing_Listed card_listing_list_card(list_u8 card, mut_list_u8 text);
-static void core_assertions_unreachable(void);
 static answer_Refusal core_convert_AnyFrom_from_Refusal(answer_Refusal a1);
 static tuple_Slots_u8_unit_unit core_core_slice_edits_copy_over_FnOnce_call_once_u8(core_slots_Slots_u8 a2, list_u8 a4);
 static uint32_t core_int_bits_i32_from_le_bytes(array_u8_4 a1);
@@ -386,16 +365,11 @@ static uint32_t core_int_u32_cast_signed(uint32_t a1);
 static uint32_t core_int_u32_from_le_bytes(array_u8_4 a1);
 static uint64_t core_int_usize_min(uint64_t a1, uint64_t a2);
 static uint64_t core_int_usize_saturating_sub(uint64_t a1, uint64_t a2);
-static core_option_Option_u8 core_option_Option_Option_T_flatten_u8(core_option_Option_Option_u8 a1);
-static const core_option_Option_u8 *core_option_Option_unwrap_ref_Option_u8(core_option_Option_ref_Option_u8 a1);
-static core_option_Option_Option_u8 core_option_more_Option_ref_T_copied_Option_u8(core_option_Option_ref_Option_u8 a1);
 static void core_ptr_copy_drop_copy_bits_u8(unsigned char *a1, unsigned char *a2, uint64_t a3);
 static core_result_Result_unit_Refusal core_result_ResultFromResidualErrResidual_from_residual_unit_Refusal_Refusal(core_result_ErrResidual_Refusal a1);
 static core_ops_ControlFlow_ErrResidual_Refusal_unit core_result_ResultTry_branch_unit_Refusal(core_result_Result_unit_Refusal a1);
 static tuple_Slots_u8_unit_unit core_slice_edits_copy_over_u8(core_slots_Slots_u8 row, list_u8 src);
 static void core_slice_edits_slice_T_copy_from_slice_u8(mut_list_u8 a1, list_u8 a2);
-static core_option_Option_ref_Option_u8 core_slice_index_UsizeSliceIndexRefSlice_pick_Option_u8(uint64_t a1, list_core_option_Option_u8 a2);
-static core_option_Option_ref_Option_u8 core_slice_slice_T_get_Option_u8_u64_ref_Option_u8(list_core_option_Option_u8 a1, uint64_t a2);
 static void core_slots_Slots_copy_in_u8(core_slots_Slots_u8 *a1, uint64_t a2, list_u8 a3);
 static void core_slots_lends_with_slots_u8_unit_list_u8_unit_unit(mut_list_u8 a1, list_u8 a3);
 static uint64_t decimal_magnitude(uint64_t number);
@@ -443,11 +417,11 @@ static uint64_t libc_write(uint32_t a1, list_u8 a2);
 static void lister_main(void);
 static uint64_t listing_accepted_line(mut_list_u8 text, uint64_t at, uint32_t knots);
 static uint64_t listing_counted_line(mut_list_u8 text, uint64_t at, uint16_t x, uint32_t y, uint32_t m, uint32_t c, uint32_t count);
-static core_option_Option_u8 listing_faults_at(list_core_option_Option_u8 faults, uint64_t i);
+static core_option_Option_u8 listing_faults_at_0(const array_core_option_Option_u8_0 *faults, uint64_t i);
 static uint64_t listing_four_fields(mut_list_u8 text, uint64_t at, uint16_t x, uint32_t y, uint32_t m, uint32_t c, uint8_t last);
 static uint64_t listing_knot_line(mut_list_u8 text, uint64_t at, uint16_t x, uint32_t y, uint32_t m, uint32_t c);
-static uint64_t listing_knot_lines(mut_list_u8 text, list_u16 minutes, list_u16 ordinates, list_u32 slopes, list_u32 curvatures, list_core_option_Option_u8 faults);
-static uint64_t listing_list(uint32_t number, uint32_t place, list_u16 minutes, list_u16 ordinates, list_u32 slopes, list_u32 curvatures, list_core_option_Option_u8 faults, mut_list_u8 text);
+static uint64_t listing_knot_lines_0(mut_list_u8 text, list_u16 minutes, list_u16 ordinates, list_u32 slopes, list_u32 curvatures, const array_core_option_Option_u8_0 *faults);
+static uint64_t listing_list_0(uint32_t number, uint32_t place, list_u16 minutes, list_u16 ordinates, list_u32 slopes, list_u32 curvatures, const array_core_option_Option_u8_0 *faults, mut_list_u8 text);
 static uint64_t listing_listed_line(mut_list_u8 text, uint64_t at, uint16_t x, uint32_t y, uint32_t m, uint32_t c, core_option_Option_u8 faults);
 static uint64_t listing_refused_line(mut_list_u8 text, uint64_t at, uint32_t number, uint32_t place);
 static gaps_Knot lists_Lists_knot(lists_Lists a1, uint64_t a2);
@@ -645,19 +619,12 @@ static card_listing_Listed card_listing_list_card(list_u8 card, mut_list_u8 text
     if (v11.verdict.tag == core_result_Result_unit_Refusal_Err) {
         number = answer_Refusal_number(v11.verdict.Err.f0);
         place = v11.verdict.Err.f0.place;
-        length = listing_list(number, place, (list_u16){card_listing_list_card_v13.e, 0ull}, (list_u16){card_listing_list_card_v13.e, 0ull}, (list_u32){card_listing_list_card_v19.e, 0ull}, (list_u32){card_listing_list_card_v19.e, 0ull}, (list_core_option_Option_u8){card_listing_list_card_v25.e, 0ull}, (mut_list_u8){text.at, text.length});
+        length = listing_list_0(number, place, (list_u16){card_listing_list_card_v13.e, 0ull}, (list_u16){card_listing_list_card_v13.e, 0ull}, (list_u32){card_listing_list_card_v19.e, 0ull}, (list_u32){card_listing_list_card_v19.e, 0ull}, &card_listing_list_card_v25, (mut_list_u8){text.at, text.length});
         return (card_listing_Listed){v11.verdict, length};
     } else {
         held = decode_Card_lent(&v11.card);
-        length_10 = listing_list(0u, 0u, held.minutes, held.ordinates, held.slopes, held.curvatures, (list_core_option_Option_u8){card_listing_list_card_v25.e, 0ull}, (mut_list_u8){text.at, text.length});
+        length_10 = listing_list_0(0u, 0u, held.minutes, held.ordinates, held.slopes, held.curvatures, &card_listing_list_card_v25, (mut_list_u8){text.at, text.length});
         return (card_listing_Listed){v11.verdict, length_10};
-    }
-}
-
-/* core::assertions::unreachable */
-static void core_assertions_unreachable(void)
-{
-    for (;;) {
     }
 }
 
@@ -773,40 +740,6 @@ static uint64_t core_int_usize_saturating_sub(uint64_t a1, uint64_t a2)
     }
 }
 
-/* core::option::Option+Option+T::flatten<u8> */
-static core_option_Option_u8 core_option_Option_Option_T_flatten_u8(core_option_Option_Option_u8 a1)
-{
-    if (a1.tag == core_option_Option_Option_u8_Some) {
-        return a1.Some.f0;
-    } else {
-        return (core_option_Option_u8){.tag = core_option_Option_u8_None};
-    }
-}
-
-/* core::option::Option::unwrap<ref_Option<u8>> */
-static const core_option_Option_u8 *core_option_Option_unwrap_ref_Option_u8(core_option_Option_ref_Option_u8 a1)
-{
-    if (a1.tag == core_option_Option_ref_Option_u8_Some) {
-        return a1.Some.f0;
-    } else {
-        core_assertions_unreachable();
-        for (;;) {
-        }
-    }
-}
-
-/* core::option::more::Option+ref+T::copied<Option<u8>> */
-static core_option_Option_Option_u8 core_option_more_Option_ref_T_copied_Option_u8(core_option_Option_ref_Option_u8 a1)
-{
-    const core_option_Option_u8 *v3;
-    if (a1.tag == core_option_Option_ref_Option_u8_Some) {
-        v3 = core_option_Option_unwrap_ref_Option_u8(a1);
-        return (core_option_Option_Option_u8){.tag = core_option_Option_Option_u8_Some, .Some = {*v3}};
-    } else {
-        return (core_option_Option_Option_u8){.tag = core_option_Option_Option_u8_None};
-    }
-}
-
 /* core::ptr::copy_drop::copy_bits<u8> */
 static void core_ptr_copy_drop_copy_bits_u8(unsigned char *a1, unsigned char *a2, uint64_t a3)
 {
@@ -849,22 +782,6 @@ static void core_slice_edits_slice_T_copy_from_slice_u8(mut_list_u8 a1, list_u8 
 {
     core_slots_lends_with_slots_u8_unit_list_u8_unit_unit((mut_list_u8){a1.at, a1.length}, a2);
     return;
-}
-
-/* core::slice::index::UsizeSliceIndexRefSlice::pick<Option<u8>> */
-static core_option_Option_ref_Option_u8 core_slice_index_UsizeSliceIndexRefSlice_pick_Option_u8(uint64_t a1, list_core_option_Option_u8 a2)
-{
-    if (a1 < a2.length) {
-        return (core_option_Option_ref_Option_u8){.tag = core_option_Option_ref_Option_u8_Some, .Some = {&a2.at[a1]}};
-    } else {
-        return (core_option_Option_ref_Option_u8){.tag = core_option_Option_ref_Option_u8_None};
-    }
-}
-
-/* core::slice::slice+T::get<Option<u8>,u64,ref_Option<u8>> */
-static core_option_Option_ref_Option_u8 core_slice_slice_T_get_Option_u8_u64_ref_Option_u8(list_core_option_Option_u8 a1, uint64_t a2)
-{
-    return core_slice_index_UsizeSliceIndexRefSlice_pick_Option_u8(a2, a1);
 }
 
 /* core::slots::Slots::copy_in<u8> */
@@ -1361,14 +1278,14 @@ static uint64_t listing_counted_line(mut_list_u8 text, uint64_t at, uint16_t x, 
     return decimal_put_field((mut_list_u8){text.at, text.length}, next, (uint64_t)count, 10);
 }
 
-/* listing::faults_at */
-static core_option_Option_u8 listing_faults_at(list_core_option_Option_u8 faults, uint64_t i)
+/* listing::faults_at<0>. The faults come as an array of any length, for no list is of Options; a knot
+   behind its end is no log's. */
+static core_option_Option_u8 listing_faults_at_0(const array_core_option_Option_u8_0 *faults, uint64_t i)
 {
-    core_option_Option_Option_u8 v3;
-    core_option_Option_ref_Option_u8 v4;
-    v4 = core_slice_slice_T_get_Option_u8_u64_ref_Option_u8(faults, i);
-    v3 = core_option_more_Option_ref_T_copied_Option_u8(v4);
-    return core_option_Option_Option_T_flatten_u8(v3);
+    if (i < 0ull) {
+        return faults->e[i];
+    }
+    return (core_option_Option_u8){.tag = core_option_Option_u8_None};
 }
 
 /* listing::four_fields. A knot's four numbers, and a byte behind the last. */
@@ -1387,8 +1304,8 @@ static uint64_t listing_knot_line(mut_list_u8 text, uint64_t at, uint16_t x, uin
     return listing_four_fields((mut_list_u8){text.at, text.length}, at, x, y, m, c, 10);
 }
 
-/* listing::knot_lines */
-static uint64_t listing_knot_lines(mut_list_u8 text, list_u16 minutes, list_u16 ordinates, list_u32 slopes, list_u32 curvatures, list_core_option_Option_u8 faults)
+/* listing::knot_lines<0> */
+static uint64_t listing_knot_lines_0(mut_list_u8 text, list_u16 minutes, list_u16 ordinates, list_u32 slopes, list_u32 curvatures, const array_core_option_Option_u8_0 *faults)
 {
     uint64_t next, i, v9;
     mut_list_u8 v12;
@@ -1404,22 +1321,22 @@ static uint64_t listing_knot_lines(mut_list_u8 text, list_u16 minutes, list_u16 
         v19 = (uint32_t)s16(ordinates.at[i]);
         v22 = slopes.at[i];
         v25 = curvatures.at[i];
-        v26 = listing_faults_at(faults, i);
+        v26 = listing_faults_at_0(faults, i);
         next = listing_listed_line(v12, next, v15, v19, v22, v25, v26);
         i = i + 1ull;
     }
     return next;
 }
 
-/* listing::list. The whole listing at the front of a buffer, and its length, by the number and place that
-   a struct has which C receives: the line of a knot has at most 60 bytes, the last line at most 33. */
-static uint64_t listing_list(uint32_t number, uint32_t place, list_u16 minutes, list_u16 ordinates, list_u32 slopes, list_u32 curvatures, list_core_option_Option_u8 faults, mut_list_u8 text)
+/* listing::list<0>. The whole listing at the front of a buffer, and its length, by the number and place
+   that a struct has which C receives: the line of a knot has at most 60 bytes, the last line at most 33. */
+static uint64_t listing_list_0(uint32_t number, uint32_t place, list_u16 minutes, list_u16 ordinates, list_u32 slopes, list_u32 curvatures, const array_core_option_Option_u8_0 *faults, mut_list_u8 text)
 {
     uint64_t next;
     if (number != 0u) {
         return listing_refused_line((mut_list_u8){text.at, text.length}, 0ull, number, place);
     }
-    next = listing_knot_lines((mut_list_u8){text.at, text.length}, minutes, ordinates, slopes, curvatures, faults);
+    next = listing_knot_lines_0((mut_list_u8){text.at, text.length}, minutes, ordinates, slopes, curvatures, faults);
     return listing_accepted_line((mut_list_u8){text.at, text.length}, next, (uint32_t)minutes.length);
 }
 
