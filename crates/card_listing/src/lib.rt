@@ -10,6 +10,9 @@ ghost use Rattle.card_listing.specs.Printed.{printed};
 use answer::Judged;
 use opened::Opened;
 
+// Of no knot.
+const NO_FAULTS: [Option<u8>; 1] = [None];
+
 // The card's own verdict, and the length of its listing.
 #[derive(Clone, Copy)]
 pub struct Listed {
@@ -29,7 +32,7 @@ pub fn list_card(card: &[u8], text: &mut [u8]) -> Listed
         Err(refusal) => {
             let number = refusal.number();
             let place = refusal.place;
-            let length = listing::list(number, place, &[], &[], &[], &[], &[], text);
+            let length = listing::list(number, place, &[], &[], &[], &[], &NO_FAULTS, text);
             Listed { verdict, length }
         }
         Ok(()) => {
@@ -41,7 +44,7 @@ pub fn list_card(card: &[u8], text: &mut [u8]) -> Listed
                 held.ordinates,
                 held.slopes,
                 held.curvatures,
-                &[],
+                &NO_FAULTS,
                 text,
             );
             Listed { verdict, length }
