@@ -1,7 +1,7 @@
 // What the lister prints of a card's bytes: a line for each knot, or the refusal. Document 01, "Two programs". A card has no faults.
 #![tactic(auto)]
 
-ghost use Rattle.std.specs.Prelude.{◌≡◌, ◌≤◌, length};
+ghost use Rattle.std.specs.Prelude.{◌≡◌, ◌≤◌, None, length};
 ghost use Rattle.answer.specs.Judge.{verdict_of};
 ghost use Rattle.decimal.specs.Put.{Put};
 ghost use Rattle.card.specs.Answers.{own};
@@ -10,14 +10,18 @@ ghost use Rattle.card_listing.specs.Printed.{printed};
 use answer::Judged;
 use opened::Opened;
 
-// Of no knot.
-const NO_FAULTS: [Option<u8>; 1] = [None];
-
 // The card's own verdict, and the length of its listing.
 #[derive(Clone, Copy)]
 pub struct Listed {
     pub verdict: Judged,
     pub length: usize,
+}
+
+// A card says of no knot that it was a log's.
+fn no_log(_knot: usize) -> Option<u8>
+    ensures { result ≡ None }
+{
+    None
 }
 
 // The listing at the front of a buffer.
@@ -32,7 +36,7 @@ pub fn list_card(card: &[u8], text: &mut [u8]) -> Listed
         Err(refusal) => {
             let number = refusal.number();
             let place = refusal.place;
-            let length = listing::list(number, place, &[], &[], &[], &[], &NO_FAULTS, text);
+            let length = listing::list(number, place, &[], &[], &[], &[], no_log, text);
             Listed { verdict, length }
         }
         Ok(()) => {
@@ -44,7 +48,7 @@ pub fn list_card(card: &[u8], text: &mut [u8]) -> Listed
                 held.ordinates,
                 held.slopes,
                 held.curvatures,
-                &NO_FAULTS,
+                no_log,
                 text,
             );
             Listed { verdict, length }

@@ -18,7 +18,7 @@ fn list_fit(
     text: &mut [u8],
 ) -> usize
     requires ordinates_len { (length ordinates.now ≡ length minutes.now) × (length slopes.old ≡ length minutes.now) × (length curvatures.old ≡ length minutes.now) }
-    requires minutes_len_bound { (length minutes.now < 2 ^ 32) × (longest_line * length minutes.now + 33 ≤ length text.old) }
+    requires minutes_len_bound { (length minutes.now ≤ most) × (longest_line * length minutes.now + 33 ≤ length text.old) }
     ensures { Put (fit_listing minutes.now ordinates.now slopes.old curvatures.old faults.now) text.old text.new 0 result }
 {
     let fitted = fit::fit(minutes, ordinates, slopes, curvatures);
@@ -29,7 +29,7 @@ fn list_fit(
         ordinates,
         slopes,
         curvatures,
-        faults,
+        |i| faults[i],
         text,
     )
 }

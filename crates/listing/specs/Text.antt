@@ -1,6 +1,6 @@
 -- What both programs print, as bytes: document 01, "Two programs", and document 02, order 4. "Both print a line per knot, then `ok n`; or one line `refused NUMBER at PLACE`."
 -- Assumes nothing.
-use Rattle.std.specs.Prelude.{ℕ, zero, suc, ◌*◌, ◌≤◌, cond, List, [], ◌∷◌, ◌++◌, eqb, ℤ, pos, length, get_or, Option, Some, None}
+use Rattle.std.specs.Prelude.{ℕ, zero, suc, ◌*◌, ◌≤◌, ◌<◌, ◌≡◌, cond, List, [], ◌∷◌, ◌++◌, eqb, ℤ, pos, length, get_or, Option, Some, None}
 use Rattle.decimal.specs.Decimal.{field, worded}
 use Rattle.decimal.specs.Put.{Put}
 
@@ -50,6 +50,10 @@ line_of xs ys ms Ms fs i = listed_line (get_or xs i 0) (get_or ys i (pos 0)) (ge
 unfoldable pub listing : ℕ → ℕ → List ℕ → List ℤ → List ℤ → List ℤ → List (Option ℕ) → List ℕ
 listing number place xs ys ms Ms fs =
     cond (eqb number 0) (lines (line_of xs ys ms Ms fs) (length xs) ++ ok_line (length xs)) (refused_line number place)
+
+-- of each of n knots it was answered which faults it has, as a list of them says
+abbrev pub Answered : (ℕ → Option ℕ → Type 0) → ℕ → List (Option ℕ) → Type 0
+Answered answers n fs = (length fs ≡ n) × ((i : ℕ) → i < n → answers i (get_or fs i no_log))
 
 -- ---- inside
 

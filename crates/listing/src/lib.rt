@@ -2,9 +2,9 @@
 // answers the offset behind it.
 #![tactic(auto)]
 
-ghost use Rattle.std.specs.Prelude.{◌≡◌, ◌+◌, ◌*◌, ◌^◌, ◌≤◌, ◌<◌, length, get_or};
+ghost use Rattle.std.specs.Prelude.{◌≡◌, ◌+◌, ◌*◌, ◌^◌, ◌≤◌, ◌<◌, ℕ, List, Option, length};
 ghost use Rattle.decimal.specs.Put.{Put};
-ghost use Rattle.listing.specs.Text.{four_fields, knot_line, counted_line, no_log, listed_line, ok_line, refused_line, line_of, listing, longest_line, Lines};
+ghost use Rattle.listing.specs.Text.{four_fields, knot_line, counted_line, listed_line, ok_line, refused_line, line_of, listing, longest_line, Lines, Answered};
 
 // A knot's four numbers, and a byte behind the last.
 fn four_fields(text: &mut [u8], at: usize, x: u16, y: i32, m: i32, c: i32, last: u8) -> usize
@@ -53,27 +53,27 @@ fn listed_line(
     }
 }
 
-// The faults come as an array of any length, for no list is of Options; a knot behind its end is no log's.
-fn faults_at<const N: usize>(faults: &[Option<u8>; N], i: usize) -> Option<u8>
-    ensures { result ≡ get_or faults.now i no_log }
+// What is answered, when the faults of a knot are asked for.
+fn faults_at<F: Fn(usize) -> Option<u8>>(faults: &F, i: usize) -> Option<u8>
+    requires { F.pre faults.now i }
+    ensures { F.post faults.now i result }
 {
-    if i < N {
-        return faults[i];
-    }
-    None
+    faults(i)
 }
 
-fn knot_lines<const N: usize>(
+fn knot_lines<F: Fn(usize) -> Option<u8>>(
     text: &mut [u8],
     minutes: &[u16],
     ordinates: &[i16],
     slopes: &[i32],
     curvatures: &[i32],
-    faults: &[Option<u8>; N],
+    faults: F,
 ) -> usize
     requires ordinates_len { (length ordinates.now ≡ length minutes.now) × (length slopes.now ≡ length minutes.now) × (length curvatures.now ≡ length minutes.now) }
     requires minutes_in_bounds { longest_line * length minutes.now ≤ length text.old }
-    ensures { Lines (line_of minutes.now ordinates.now slopes.now curvatures.now faults.now) (length minutes.now) text.old text.new result }
+    requires faults_pre { (i : ℕ) → i < length minutes.now → F.pre faults i }
+    ensures { (fs : List (Option ℕ)) × Answered (F.post faults) (length minutes.now) fs
+        × Lines (line_of minutes.now ordinates.now slopes.now curvatures.now fs) (length minutes.now) text.old text.new result }
 {
     let mut next: usize = 0;
     for i in 0..minutes.len() {
@@ -84,7 +84,7 @@ fn knot_lines<const N: usize>(
             ordinates[i] as i32,
             slopes[i],
             curvatures[i],
-            faults_at(faults, i),
+            faults_at(&faults, i),
         );
     }
     next
@@ -110,19 +110,22 @@ pub fn refused_line(text: &mut [u8], at: usize, number: u32, place: u32) -> usiz
 }
 
 // The whole listing at the front of a buffer, and its length, by the number and place that a struct has which C receives: the line of a knot has at most 60 bytes, the last line at most 33.
-pub fn list<const N: usize>(
+// The faults are asked for, knot by knot: whoever has a list of them hands on `|i| list.get(i).copied().flatten()`.
+pub fn list<F: Fn(usize) -> Option<u8>>(
     number: u32,
     place: u32,
     minutes: &[u16],
     ordinates: &[i16],
     slopes: &[i32],
     curvatures: &[i32],
-    faults: &[Option<u8>; N],
+    faults: F,
     text: &mut [u8],
 ) -> usize
     requires ordinates_len { (length ordinates.now ≡ length minutes.now) × (length slopes.now ≡ length minutes.now) × (length curvatures.now ≡ length minutes.now) }
     requires minutes_len_bound { (length minutes.now < 2 ^ 32) × (longest_line * length minutes.now + 33 ≤ length text.old) }
-    ensures { Put (listing number place minutes.now ordinates.now slopes.now curvatures.now faults.now) text.old text.new 0 result }
+    requires faults_pre { number ≡ 0 → (i : ℕ) → i < length minutes.now → F.pre faults i }
+    ensures { (fs : List (Option ℕ)) × (number ≡ 0 → Answered (F.post faults) (length minutes.now) fs)
+        × Put (listing number place minutes.now ordinates.now slopes.now curvatures.now fs) text.old text.new 0 result }
 {
     if number != 0 {
         return refused_line(text, 0, number, place);

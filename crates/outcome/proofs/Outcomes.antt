@@ -3,9 +3,10 @@
 use mathlib.Core.Path.{◌≡◌, refl, sym, ap, ap₂}
 use native.Mathlib.Omega.{arith}
 use mathlib.Core.List.{List, []}
-use Prim.Native.Nat.{ℕ}
+use Prim.Native.Nat.{ℕ, ◌<◌}
 use lib.IntN.{ℤ}
-use Rattle.std.specs.Prelude.{Result, Ok, Err}
+use lib.ListN.{length}
+use Rattle.std.specs.Prelude.{Option, Result, Ok, Err}
 use Rattle.answer.specs.Answer.{Answer, Verdict, refused, number, place}
 use Rattle.answer.specs.Judge.{Judged, number_of, verdict_of, AnswersAs}
 use Rattle.answer.specs.declared.Refusal.{Refusal}
@@ -166,6 +167,7 @@ use Rattle.decimal.proofs.put_decimal.Reads as put-decimal
 use Rattle.decimal.proofs.put_signed.Reads as put-signed
 use Rattle.decimal.proofs.put_field.Reads as put-field
 use Rattle.decimal.proofs.put_worded.Reads as put-worded
+use Rattle.listing.proofs.Plain.{same_faults}
 use Rattle.listing.proofs.knot_line.Reads as knot_line
 use Rattle.listing.proofs.counted_line.Reads as counted_line
 use Rattle.listing.proofs.refused_line.Reads as refused_line
@@ -704,9 +706,18 @@ count_listed = putting _ _ _ _
 pub sheet_listed : Once list-sheet.Post × Lent list-sheet.Post (λ s. s.1.0.now)
 sheet_listed = putting _ _ _ _
 
--- and here the eighth, however many places the array of faults has
-pub listed : (N : ℕ) (fits : _) → Once (list.Post N fits) × Lent (list.Post N fits) (λ s. s.1.1.1.1.1.1.1.0.now)
-listed N fits = putting _ _ _ _
+-- of each of n knots there is one answer to how many faults it has
+abbrev AnsweredOnce : (ℕ → Option ℕ → Type 0) → ℕ → Type 0
+AnsweredOnce answers n = (i : ℕ) → i < n → (faults other : Option ℕ) → answers i faults → answers i other → faults ≡ other
+
+-- and here the eighth, wherever that is so of what is asked, and of a refusal always: result and buffer as a pair
+pub listed :
+    (F : _) (laws : _) (faults : _) (d e f g : _)
+    → Leaves (λ κs a x s. (a.0 ≡ 0 → AnsweredOnce (λ i. faults.post a.1.1.1.1.1.1.0 (i, tt)) (length a.1.1.0.now)) × list.Post F laws faults d e f g κs a x s) {B = ℕ × List ℕ} (λ x s. (x, s.1.1.1.1.1.1.1.0.now))
+listed F laws faults d e f g κs a x y s t p q =
+    let same = same_faults a.0 a.1.0 a.1.1.0.now a.1.1.1.0.now a.1.1.1.1.0.now a.1.1.1.1.1.0.now p.1.0 q.1.0 (λ z i h. p.0 z i h _ _ ((p.1.1 z).1 i h) ((q.1.1 z).1 i h)) in
+    let one = one_put (rw same at p.1.2) q.1.2 in
+    ap₂ (λ n text. (n, text)) one.1 one.0
 
 -- ---- what the command reads and says
 

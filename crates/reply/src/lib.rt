@@ -182,7 +182,16 @@ fn told(
         return refuse_knots(number, place, lines, to);
     }
     let written = write(form, minutes, ordinates, slopes, curvatures, card);
-    let length = listing::list(0, 0, minutes, ordinates, slopes, curvatures, faults, to);
+    let length = listing::list(
+        0,
+        0,
+        minutes,
+        ordinates,
+        slopes,
+        curvatures,
+        |i| faults[i],
+        to,
+    );
     Answered {
         status: Status::Done,
         length,

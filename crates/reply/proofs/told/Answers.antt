@@ -2,7 +2,9 @@
 use mathlib.Core.Path.{◌≡◌, refl, ap}
 use native.Mathlib.Omega.{arith}
 use Rattle.reply.specs.Reply.{listing_of}
+use Rattle.listing.proofs.Plain.{same_faults}
 use Rattle.reply.proofs.Replies.{answers_as, refuses, replies_refused, replies_done}
+use borrow.Author.Rules.{rules}
 use Rattle.reply.proofs.told.Goals as goal
 use Rattle.reply.proofs.told.Goals.{Else-number-ne0, Then-number-ne0}
 
@@ -17,4 +19,7 @@ returns c =
     let w = c.write-written.ensures in
     let q = (goal.at.returns c).Else-number-ne0 in
     let z : q.args.number ≡ 0 = omega (arith, q.if-number-ne0.false) in
-    answers_as (replies_done _ _ _ _ _ _ _ z) (record { said = c.list-length.ensures; status = refl; card = w.buffer; size = ap (λ r. r.bytes) w.answer })
+    let a = q.args in
+    let l = c.list-length.ensures in
+    let e = same_faults 0 0 a.minutes.now a.ordinates.now a.slopes.now a.curvatures.now l.0 a.faults.now (λ z i h. (let told = (l.1 z).1 i h in search rules)) in
+    answers_as (replies_done _ _ _ _ _ _ _ z) (record { said = rw e at l.2; status = refl; card = w.buffer; size = ap (λ r. r.bytes) w.answer })
