@@ -1,6 +1,6 @@
 /* lister in portable C11. This file is written by portable/write and not by hand: it is the MIR of the crate lister
    as C, and that MIR is what the prover has proved. SHA-256 of the MIR:
-   4ff15c1b94ab24271133d813c3143917471cc40dc9161d792ee07f4500996b32
+   a42046c24290f5856628587f1d2d0b3fd76937fc424217617874a82dd70fde78
    Not proved: this translation and the C compiler; docs/TRUST.md says what was compared, and where.
 
    Names are the sources'. An integer is its bits, so it is unsigned, and s64(x) is the signed number of x's bits. A list
@@ -57,13 +57,12 @@ typedef struct list_u32 list_u32;
 typedef struct knots_fn_in_range_each_Self_list_u16_list_u32_list_u32 knots_fn_in_range_each_Self_list_u16_list_u32_list_u32;
 typedef struct list_u8 list_u8;
 typedef struct card_bytes_fn_knots_due_each_Self_list_u8 card_bytes_fn_knots_due_each_Self_list_u8;
+enum { core_option_Option_u8_None, core_option_Option_u8_Some };
+typedef struct core_option_Option_u8 core_option_Option_u8;
 typedef struct card_listing_Listed card_listing_Listed;
 typedef struct mut_list_u8 mut_list_u8;
 typedef struct array_u16_0 array_u16_0;
 typedef struct array_u32_0 array_u32_0;
-enum { core_option_Option_u8_None, core_option_Option_u8_Some };
-typedef struct core_option_Option_u8 core_option_Option_u8;
-typedef struct array_core_option_Option_u8_1 array_core_option_Option_u8_1;
 typedef struct knots_Lent knots_Lent;
 typedef struct knots_Kind knots_Kind;
 typedef struct array_u16_64 array_u16_64;
@@ -151,6 +150,14 @@ struct card_bytes_fn_knots_due_each_Self_list_u8 {
     list_u8 f0;
 };
 
+/* core::option::Option<u8> */
+struct core_option_Option_u8 {
+    uint8_t tag;
+    struct {
+        uint8_t f0;
+    } Some;
+};
+
 /* card_listing::Listed. The card's own verdict, and the length of its listing. */
 struct card_listing_Listed {
     core_result_Result_unit_Refusal verdict;
@@ -168,18 +175,6 @@ struct array_u16_0 {
 
 struct array_u32_0 {
     uint32_t e[1];
-};
-
-/* core::option::Option<u8> */
-struct core_option_Option_u8 {
-    uint8_t tag;
-    struct {
-        uint8_t f0;
-    } Some;
-};
-
-struct array_core_option_Option_u8_1 {
-    core_option_Option_u8 e[1];
 };
 
 /* knots::Lent. A card as four lists lend it, with the codes of its ends. */
@@ -323,10 +318,6 @@ static const array_u16_0 card_listing_list_card_v13 = {{0}};
 
 static const array_u32_0 card_listing_list_card_v19 = {{0}};
 
-static const array_core_option_Option_u8_1 card_listing_list_card_v25 = {{
-    {.tag = core_option_Option_u8_None},
-}};
-
 static const array_u8_3 listing_accepted_line_v7 = {{
     111, 107, 32,
 }};
@@ -353,7 +344,10 @@ static core_result_Result_unit_Refusal card_bytes_fn_knots_due_each_Fn_call(cons
 static core_result_Result_unit_Refusal card_bytes_head_due(list_u8 list, uint16_t head);
 static core_result_Result_unit_Refusal card_bytes_knots_due(list_u8 list, uint64_t n);
 static core_result_Result_unit_Refusal card_bytes_records_due(list_u8 list, uint64_t n);
+static void card_listing_Destruct_none_drop_unit(void);
+static core_option_Option_u8 card_listing_card_listing_no_log_Fn_call(uint64_t a2);
 static card_listing_Listed card_listing_list_card(list_u8 card, mut_list_u8 text);
+static core_option_Option_u8 card_listing_no_log(uint64_t _knot);
 static answer_Refusal core_convert_AnyFrom_from_Refusal(answer_Refusal a1);
 static tuple_Slots_u8_unit_unit core_core_slice_edits_copy_over_FnOnce_call_once_u8(core_slots_Slots_u8 a2, list_u8 a4);
 static uint32_t core_int_bits_i32_from_le_bytes(array_u8_4 a1);
@@ -419,11 +413,11 @@ static uint64_t libc_write(uint32_t a1, list_u8 a2);
 static void lister_main(void);
 static uint64_t listing_accepted_line(mut_list_u8 text, uint64_t at, uint32_t knots);
 static uint64_t listing_counted_line(mut_list_u8 text, uint64_t at, uint16_t x, uint32_t y, uint32_t m, uint32_t c, uint32_t count);
-static core_option_Option_u8 listing_faults_at_1(const array_core_option_Option_u8_1 *faults, uint64_t i);
+static core_option_Option_u8 listing_faults_at_unit(uint64_t a2);
 static uint64_t listing_four_fields(mut_list_u8 text, uint64_t at, uint16_t x, uint32_t y, uint32_t m, uint32_t c, uint8_t last);
 static uint64_t listing_knot_line(mut_list_u8 text, uint64_t at, uint16_t x, uint32_t y, uint32_t m, uint32_t c);
-static uint64_t listing_knot_lines_1(mut_list_u8 text, list_u16 minutes, list_u16 ordinates, list_u32 slopes, list_u32 curvatures, const array_core_option_Option_u8_1 *faults);
-static uint64_t listing_list_1(uint32_t number, uint32_t place, list_u16 minutes, list_u16 ordinates, list_u32 slopes, list_u32 curvatures, const array_core_option_Option_u8_1 *faults, mut_list_u8 text);
+static uint64_t listing_knot_lines_unit(mut_list_u8 a1, list_u16 a2, list_u16 a3, list_u32 a4, list_u32 a5);
+static uint64_t listing_list_unit(uint32_t a1, uint32_t a2, list_u16 a3, list_u16 a4, list_u32 a5, list_u32 a6, mut_list_u8 a8);
 static uint64_t listing_listed_line(mut_list_u8 text, uint64_t at, uint16_t x, uint32_t y, uint32_t m, uint32_t c, core_option_Option_u8 faults);
 static uint64_t listing_refused_line(mut_list_u8 text, uint64_t at, uint32_t number, uint32_t place);
 static gaps_Knot lists_Lists_knot(lists_Lists a1, uint64_t a2);
@@ -610,6 +604,18 @@ static core_result_Result_unit_Refusal card_bytes_records_due(list_u8 list, uint
     return card_bytes_end_due(list, n);
 }
 
+/* card_listing::Destruct++none::drop<unit> */
+static void card_listing_Destruct_none_drop_unit(void)
+{
+    return;
+}
+
+/* card_listing::card_listing++no_log+Fn::call */
+static core_option_Option_u8 card_listing_card_listing_no_log_Fn_call(uint64_t a2)
+{
+    return card_listing_no_log(a2);
+}
+
 /* card_listing::list_card. The listing at the front of a buffer. */
 static card_listing_Listed card_listing_list_card(list_u8 card, mut_list_u8 text)
 {
@@ -621,13 +627,20 @@ static card_listing_Listed card_listing_list_card(list_u8 card, mut_list_u8 text
     if (v11.verdict.tag == core_result_Result_unit_Refusal_Err) {
         number = answer_Refusal_number(v11.verdict.Err.f0);
         place = v11.verdict.Err.f0.place;
-        length = listing_list_1(number, place, (list_u16){card_listing_list_card_v13.e, 0ull}, (list_u16){card_listing_list_card_v13.e, 0ull}, (list_u32){card_listing_list_card_v19.e, 0ull}, (list_u32){card_listing_list_card_v19.e, 0ull}, &card_listing_list_card_v25, (mut_list_u8){text.at, text.length});
+        length = listing_list_unit(number, place, (list_u16){card_listing_list_card_v13.e, 0ull}, (list_u16){card_listing_list_card_v13.e, 0ull}, (list_u32){card_listing_list_card_v19.e, 0ull}, (list_u32){card_listing_list_card_v19.e, 0ull}, (mut_list_u8){text.at, text.length});
         return (card_listing_Listed){v11.verdict, length};
     } else {
         held = decode_Card_lent(&v11.card);
-        length_10 = listing_list_1(0u, 0u, held.minutes, held.ordinates, held.slopes, held.curvatures, &card_listing_list_card_v25, (mut_list_u8){text.at, text.length});
+        length_10 = listing_list_unit(0u, 0u, held.minutes, held.ordinates, held.slopes, held.curvatures, (mut_list_u8){text.at, text.length});
         return (card_listing_Listed){v11.verdict, length_10};
     }
+}
+
+/* card_listing::no_log. A card says of no knot that it was a log's. */
+static core_option_Option_u8 card_listing_no_log(uint64_t _knot)
+{
+    (void)_knot;
+    return (core_option_Option_u8){.tag = core_option_Option_u8_None};
 }
 
 /* core::convert::AnyFrom::from<Refusal> */
@@ -1280,14 +1293,10 @@ static uint64_t listing_counted_line(mut_list_u8 text, uint64_t at, uint16_t x, 
     return decimal_put_field((mut_list_u8){text.at, text.length}, next, (uint64_t)count, 10);
 }
 
-/* listing::faults_at<1>. The faults come as an array of any length, for no list is of Options; a knot
-   behind its end is no log's. */
-static core_option_Option_u8 listing_faults_at_1(const array_core_option_Option_u8_1 *faults, uint64_t i)
+/* listing::faults_at<unit>. What is answered, when the faults of a knot are asked for. */
+static core_option_Option_u8 listing_faults_at_unit(uint64_t a2)
 {
-    if (i < 1ull) {
-        return faults->e[i];
-    }
-    return (core_option_Option_u8){.tag = core_option_Option_u8_None};
+    return card_listing_card_listing_no_log_Fn_call(a2);
 }
 
 /* listing::four_fields. A knot's four numbers, and a byte behind the last. */
@@ -1306,40 +1315,46 @@ static uint64_t listing_knot_line(mut_list_u8 text, uint64_t at, uint16_t x, uin
     return listing_four_fields((mut_list_u8){text.at, text.length}, at, x, y, m, c, 10);
 }
 
-/* listing::knot_lines<1> */
-static uint64_t listing_knot_lines_1(mut_list_u8 text, list_u16 minutes, list_u16 ordinates, list_u32 slopes, list_u32 curvatures, const array_core_option_Option_u8_1 *faults)
+/* listing::knot_lines<unit> */
+static uint64_t listing_knot_lines_unit(mut_list_u8 a1, list_u16 a2, list_u16 a3, list_u32 a4, list_u32 a5)
 {
-    uint64_t next, i, v9;
-    mut_list_u8 v12;
-    uint16_t v15;
-    uint32_t v19, v22, v25;
-    core_option_Option_u8 v26;
+    uint64_t result, next, i, v10;
+    mut_list_u8 v13;
+    uint16_t v16;
+    uint32_t v20, v23, v26;
+    core_option_Option_u8 v27;
     next = 0ull;
     i = 0ull;
-    v9 = minutes.length;
-    while (i < v9) {
-        v12 = (mut_list_u8){text.at, text.length};
-        v15 = minutes.at[i];
-        v19 = (uint32_t)s16(ordinates.at[i]);
-        v22 = slopes.at[i];
-        v25 = curvatures.at[i];
-        v26 = listing_faults_at_1(faults, i);
-        next = listing_listed_line(v12, next, v15, v19, v22, v25, v26);
+    v10 = a2.length;
+    while (i < v10) {
+        v13 = (mut_list_u8){a1.at, a1.length};
+        v16 = a2.at[i];
+        v20 = (uint32_t)s16(a3.at[i]);
+        v23 = a4.at[i];
+        v26 = a5.at[i];
+        v27 = listing_faults_at_unit(i);
+        next = listing_listed_line(v13, next, v16, v20, v23, v26, v27);
         i = i + 1ull;
     }
-    return next;
+    result = next;
+    card_listing_Destruct_none_drop_unit();
+    return result;
 }
 
-/* listing::list<1>. The whole listing at the front of a buffer, and its length, by the number and place
-   that a struct has which C receives: the line of a knot has at most 60 bytes, the last line at most 33. */
-static uint64_t listing_list_1(uint32_t number, uint32_t place, list_u16 minutes, list_u16 ordinates, list_u32 slopes, list_u32 curvatures, const array_core_option_Option_u8_1 *faults, mut_list_u8 text)
+/* listing::list<unit>. The whole listing at the front of a buffer, and its length, by the number and place
+   that a struct has which C receives: the line of a knot has at most 60 bytes, the last line at most 33.
+   The faults are asked for, knot by knot: whoever has a list of them hands on `|i|
+   list.get(i).copied().flatten()`. */
+static uint64_t listing_list_unit(uint32_t a1, uint32_t a2, list_u16 a3, list_u16 a4, list_u32 a5, list_u32 a6, mut_list_u8 a8)
 {
-    uint64_t next;
-    if (number != 0u) {
-        return listing_refused_line((mut_list_u8){text.at, text.length}, 0ull, number, place);
+    uint64_t result, next;
+    if (a1 != 0u) {
+        result = listing_refused_line((mut_list_u8){a8.at, a8.length}, 0ull, a1, a2);
+        card_listing_Destruct_none_drop_unit();
+        return result;
     }
-    next = listing_knot_lines_1((mut_list_u8){text.at, text.length}, minutes, ordinates, slopes, curvatures, faults);
-    return listing_accepted_line((mut_list_u8){text.at, text.length}, next, (uint32_t)minutes.length);
+    next = listing_knot_lines_unit((mut_list_u8){a8.at, a8.length}, a3, a4, a5, a6);
+    return listing_accepted_line((mut_list_u8){a8.at, a8.length}, next, (uint32_t)a3.length);
 }
 
 /* listing::listed_line. A log's line has its faults behind the curvature, and no other knot's has any. */
