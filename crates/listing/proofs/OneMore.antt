@@ -9,7 +9,7 @@ use lib.ListN.{length, get_or, length-append}
 use Rattle.std.specs.Prelude.{Option}
 use Rattle.std.proofs.Math.ListN.{get_or-append}
 use Rattle.std.proofs.Math.Seq.{get_or-append_seam}
-use Rattle.listing.specs.Text.{no_log, lines, line_of, Answered}
+use Rattle.listing.specs.Text.{no_log, lines, line_of, Counted, Answered}
 use Rattle.listing.proofs.Plain.{same_lines}
 
 module _ (fs : List (Option ℕ)) (faults : Option ℕ) {n : ℕ} (e : length fs ≡ n) where
@@ -19,7 +19,7 @@ module _ (fs : List (Option ℕ)) (faults : Option ℕ) {n : ℕ} (e : length fs
   pub last : get_or (fs ++ (faults ∷ [])) n no_log ≡ faults
   last = rw (sym e) (get_or-append_seam fs faults [] no_log)
 
-  pub answered_more : (answers : ℕ → Option ℕ → Type 0) → Answered answers n fs → answers n faults → Answered answers (suc n) (fs ++ (faults ∷ []))
+  pub answered_more : (answers : ℕ → Option ℕ → Type 0) → Answered answers n fs → answers n faults × Counted faults → Answered answers (suc n) (fs ++ (faults ∷ []))
   answered_more answers a b = (omega (arith, length-append fs (faults ∷ [])), λ i h. elim (dec_lt i n) [ yes l ↦ rw (before i l) (a.1 i l) | no l ↦ (let z : i ≡ n = omega (arith, h, l) in rw (z, last) b) ])
 
   pub lines_before : (xs : List ℕ) (ys ms Ms : List ℤ) → lines (line_of xs ys ms Ms (fs ++ (faults ∷ []))) n ≡ lines (line_of xs ys ms Ms fs) n

@@ -1,6 +1,6 @@
 -- What both programs print, as bytes: document 01, "Two programs", and document 02, order 4. "Both print a line per knot, then `ok n`; or one line `refused NUMBER at PLACE`."
 -- Assumes nothing.
-use Rattle.std.specs.Prelude.{ℕ, zero, suc, ◌*◌, ◌≤◌, ◌<◌, ◌≡◌, cond, List, [], ◌∷◌, ◌++◌, eqb, ℤ, pos, length, get_or, Option, Some, None}
+use Rattle.std.specs.Prelude.{ℕ, zero, suc, ◌*◌, ◌^◌, ◌≤◌, ◌<◌, ◌≡◌, cond, List, [], ◌∷◌, ◌++◌, eqb, ℤ, pos, length, get_or, Option, Some, None}
 use Rattle.decimal.specs.Decimal.{field, worded}
 use Rattle.decimal.specs.Put.{Put}
 
@@ -51,9 +51,14 @@ unfoldable pub listing : ℕ → ℕ → List ℕ → List ℤ → List ℤ → 
 listing number place xs ys ms Ms fs =
     cond (eqb number 0) (lines (line_of xs ys ms Ms fs) (length xs) ++ ok_line (length xs)) (refused_line number place)
 
+-- a count of faults has 8 bits
+abbrev pub Counted : Option ℕ → Type 0
+Counted None = Unit {0}
+Counted (Some faults) = faults < 2 ^ 8
+
 -- of each of n knots it was answered which faults it has, as a list of them says
 abbrev pub Answered : (ℕ → Option ℕ → Type 0) → ℕ → List (Option ℕ) → Type 0
-Answered answers n fs = (length fs ≡ n) × ((i : ℕ) → i < n → answers i (get_or fs i no_log))
+Answered answers n fs = (length fs ≡ n) × ((i : ℕ) → i < n → answers i (get_or fs i no_log) × Counted (get_or fs i no_log))
 
 -- ---- inside
 

@@ -715,7 +715,7 @@ pub listed :
     (F : _) (laws : _) (faults : _) (d e f g : _)
     → Leaves (λ κs a x s. (a.0 ≡ 0 → AnsweredOnce (λ i. faults.post a.1.1.1.1.1.1.0 (i, tt)) (length a.1.1.0.now)) × list.Post F laws faults d e f g κs a x s) {B = ℕ × List ℕ} (λ x s. (x, s.1.1.1.1.1.1.1.0.now))
 listed F laws faults d e f g κs a x y s t p q =
-    let same = same_faults a.0 a.1.0 a.1.1.0.now a.1.1.1.0.now a.1.1.1.1.0.now a.1.1.1.1.1.0.now p.1.0 q.1.0 (λ z i h. p.0 z i h _ _ ((p.1.1 z).1 i h) ((q.1.1 z).1 i h)) in
+    let same = same_faults a.0 a.1.0 a.1.1.0.now a.1.1.1.0.now a.1.1.1.1.0.now a.1.1.1.1.1.0.now p.1.0 q.1.0 (λ z i h. p.0 z i h _ _ ((p.1.1 z).1 i h).0 ((q.1.1 z).1 i h).0) in
     let one = one_put (rw same at p.1.2) q.1.2 in
     ap₂ (λ n text. (n, text)) one.1 one.0
 

@@ -67,4 +67,4 @@ pub returns-in-Ok-clause-put : goal.returns-in-Ok-clause-put
 returns-in-Ok-clause-put c =
     let l = c.list-length-in-Ok.ensures in
     rw (sym (printed_is (goal.at.returns-in-Ok-clause-put c).After-lent-held))
-    (rw (same_faults 0 0 _ _ _ _ l.0 [] (λ z i h. (let e = (l.1 z).1 i h in search rules))) at l.2)
+    (rw (same_faults 0 0 _ _ _ _ l.0 [] (λ z i h. (let e = ((l.1 z).1 i h).0 in search rules))) at l.2)

@@ -12,5 +12,5 @@ returns c =
     let a = c.args in
     let f = c.fit-fitted.result in
     let l = c.list.ensures in
-    let e = same_faults f.number f.place a.minutes.now a.ordinates.now _ _ l.0 a.faults.now (λ z i h. (let told = (l.1 z).1 i h in search rules)) in
+    let e = same_faults f.number f.place a.minutes.now a.ordinates.now _ _ l.0 a.faults.now (λ z i h. (let told = ((l.1 z).1 i h).0 in search rules)) in
     rw (e ∙ listed_fit a.minutes.now a.ordinates.now a.faults.now c.fit-fitted.ensures) at l.2

@@ -9,7 +9,7 @@ use lib.ListN.{length, get_or}
 use mir.Syntax.{w16, w32}
 use mir.Val.{to_z, of_z}
 use Rattle.little_endian.proofs.Signs.{passed}
-use Rattle.listing.specs.Text.{listed_line, lines, line_of, longest_line}
+use Rattle.listing.specs.Text.{Counted, listed_line, lines, line_of, longest_line}
 use Rattle.decimal.proofs.Puts.{put_none, put_then}
 use Rattle.decimal.proofs.Widths.{wide, widened}
 use Rattle.listing.proofs.Lengths.{length_listed_line}
@@ -47,6 +47,9 @@ line_is g c =
     let M = passed w32 (get_or a.curvatures.now i (pos 0)) c.listed_line-arg-in-loop-i-3-1.given in
     rw (y, m, M)
 
+counted : (g : given.Over) (c : After-faults_at g) → Counted c.faults_at.result
+counted g c = let h = c.faults_at.type_inv in search rules
+
 line_short : (g : given.Over) (c : After-faults_at g) → length (line g c) ≤ longest_line
 line_short g c =
     let x = c.shared_slice_known-in-loop-i-1.given c.loop-i.i in
@@ -76,7 +79,7 @@ loop-i-preserved g c =
     let i = k.loop-i.invariant.2 in
     let p = rw (line_is g k) at c.listed_line-next.ensures in (
       fs ++ (k.faults_at.result ∷ []),
-      rw add-one (answered_more fs k.faults_at.result told.0 (λ j. g.F.Fn.post a.faults (j, tt)) told k.faults_at.ensures),
+      rw add-one (answered_more fs k.faults_at.result told.0 (λ j. g.F.Fn.post a.faults (j, tt)) told (k.faults_at.ensures, counted g k)),
       record {
         put = rw (add-one, lines_before fs k.faults_at.result told.0 a.minutes.now a.ordinates.now a.slopes.now a.curvatures.now, last fs k.faults_at.result told.0) (put_then i.put p);
         short = omega (arith, line_short g k, i.short, p.behind);

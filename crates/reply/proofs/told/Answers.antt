@@ -21,5 +21,5 @@ returns c =
     let z : q.args.number ≡ 0 = omega (arith, q.if-number-ne0.false) in
     let a = q.args in
     let l = c.list-length.ensures in
-    let e = same_faults 0 0 a.minutes.now a.ordinates.now a.slopes.now a.curvatures.now l.0 a.faults.now (λ z i h. (let told = (l.1 z).1 i h in search rules)) in
+    let e = same_faults 0 0 a.minutes.now a.ordinates.now a.slopes.now a.curvatures.now l.0 a.faults.now (λ z i h. (let told = ((l.1 z).1 i h).0 in search rules)) in
     answers_as (replies_done _ _ _ _ _ _ _ z) (record { said = rw e at l.2; status = refl; card = w.buffer; size = ap (λ r. r.bytes) w.answer })
