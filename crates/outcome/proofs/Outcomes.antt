@@ -5,7 +5,7 @@ use native.Mathlib.Omega.{arith}
 use mathlib.Core.List.{List, []}
 use Prim.Native.Nat.{ℕ, ◌<◌}
 use lib.IntN.{ℤ}
-use lib.ListN.{length}
+use lib.ListN.{length, get_or}
 use Rattle.std.specs.Prelude.{Option, Result, Ok, Err}
 use Rattle.answer.specs.Answer.{Answer, Verdict, refused, number, place}
 use Rattle.answer.specs.Judge.{Judged, number_of, verdict_of, AnswersAs}
@@ -167,6 +167,7 @@ use Rattle.decimal.proofs.put_decimal.Reads as put-decimal
 use Rattle.decimal.proofs.put_signed.Reads as put-signed
 use Rattle.decimal.proofs.put_field.Reads as put-field
 use Rattle.decimal.proofs.put_worded.Reads as put-worded
+use Rattle.listing.specs.Text.{no_log, listing}
 use Rattle.listing.proofs.Plain.{same_faults}
 use Rattle.listing.proofs.knot_line.Reads as knot_line
 use Rattle.listing.proofs.counted_line.Reads as counted_line
@@ -706,15 +707,35 @@ count_listed = putting _ _ _ _
 pub sheet_listed : Once list-sheet.Post × Lent list-sheet.Post (λ s. s.1.0.now)
 sheet_listed = putting _ _ _ _
 
+-- what `list` promises of a list of faults: by number, place, minutes, ordinates, slopes, curvatures, that list, and the buffer as it is lent
+abbrev ListedBy : Unit {0} → ℕ × ℕ × List ℕ × List ℤ × List ℤ × List ℤ × List (Option ℕ) × List ℕ → ℕ → List ℕ → Type 0
+ListedBy κs a x text = Put (listing a.0 a.1 a.2 a.3 a.4 a.5 a.6) a.7 text 0 x
+
+-- it leaves one outcome
+pub listed : Once ListedBy × Lent ListedBy (λ text. text)
+listed = putting _ _ _ _
+
+-- of each of n knots the function lent answers what a list of faults says
+abbrev Says : List (Option ℕ) → (ℕ → Option ℕ → Type 0) → ℕ → Type 0
+Says fs answers n = (i : ℕ) → i < n → (faults : Option ℕ) → answers i faults → faults ≡ get_or fs i no_log
+
+-- and it is promised whichever function says the list, and of a refusal whatever the function says
+pub listed_by :
+    (F : _) (laws : _) (faults : _) (d e f g : _) (fs : List (Option ℕ)) (κs : _) (a : _) (x : ℕ) (s : _)
+    → list.Post F laws faults d e f g κs a x s → (a.0 ≡ 0 → Says fs (λ i. faults.post a.1.1.1.1.1.1.0 (i, tt)) (length a.1.1.0.now))
+    → ListedBy tt (a.0, a.1.0, a.1.1.0.now, a.1.1.1.0.now, a.1.1.1.1.0.now, a.1.1.1.1.1.0.now, fs, a.1.1.1.1.1.1.1.0.now) x s.1.1.1.1.1.1.1.0.now
+listed_by F laws faults d e f g fs κs a x s p says =
+    rw (same_faults a.0 a.1.0 a.1.1.0.now a.1.1.1.0.now a.1.1.1.1.0.now a.1.1.1.1.1.0.now p.0 fs (λ z i h. says z i h _ ((p.1 z).1 i h).0)) at p.2
+
 -- of each of n knots there is one answer to how many faults it has
 abbrev AnsweredOnce : (ℕ → Option ℕ → Type 0) → ℕ → Type 0
 AnsweredOnce answers n = (i : ℕ) → i < n → (faults other : Option ℕ) → answers i faults → answers i other → faults ≡ other
 
--- and here the eighth, wherever that is so of what is asked, and of a refusal always: result and buffer as a pair
-pub listed :
+-- whatever function is lent, one outcome is left wherever that is so of what it is asked, and of a refusal always: result and buffer, the eighth parameter, as a pair
+pub listed_as_told :
     (F : _) (laws : _) (faults : _) (d e f g : _)
     → Leaves (λ κs a x s. (a.0 ≡ 0 → AnsweredOnce (λ i. faults.post a.1.1.1.1.1.1.0 (i, tt)) (length a.1.1.0.now)) × list.Post F laws faults d e f g κs a x s) {B = ℕ × List ℕ} (λ x s. (x, s.1.1.1.1.1.1.1.0.now))
-listed F laws faults d e f g κs a x y s t p q =
+listed_as_told F laws faults d e f g κs a x y s t p q =
     let same = same_faults a.0 a.1.0 a.1.1.0.now a.1.1.1.0.now a.1.1.1.1.0.now a.1.1.1.1.1.0.now p.1.0 q.1.0 (λ z i h. p.0 z i h _ _ ((p.1.1 z).1 i h).0 ((q.1.1 z).1 i h).0) in
     let one = one_put (rw same at p.1.2) q.1.2 in
     ap₂ (λ n text. (n, text)) one.1 one.0
